@@ -1,0 +1,14 @@
+pub mod Octets
+pub mod State
+pub mod Reasons
+pub mod Tables
+pub mod Rules
+pub mod Immediate
+pub mod Commands
+pub mod Image
+pub mod Hub
+pub mod WellFormed
+pub mod Layout
+pub mod Meanings
+pub mod Demand3
+pub mod Proof

@@ -1,0 +1,168 @@
+-- The state: up to four controllers, index 0 to 3, the clock, and beside them the commands that wait for the radio.
+use Prim.Native.Nat.{ℕ, zero, suc, _+_, _*_}
+use mathlib.Core.Bool.{Bool, true, false, _&&_, _||_, not}
+use mathlib.Core.List.{List, [], _∷_, _++_}
+use mathlib.Core.Option.{Option, none, some}
+use lib.ListN.{length, getD, take, drop, replicate, set}
+use lib.Dec.{eqb, leb, ltb}
+pub use Rattle.model.specs.declared.Hardware.{Hardware}
+pub use Rattle.model.specs.declared.RadioSettings.{RadioSettings}
+pub use Rattle.model.specs.declared.Timer.{Timer}
+pub use Rattle.model.specs.declared.HostSettings.{HostSettings}
+pub use Rattle.model.specs.declared.Settings.{Settings}
+use Rattle.model.specs.Octets.{Octets, bit, allZero, octet}
+
+-- a table: 32 slots, each free or one record as it stands in a packet
+abbrev pub Table : Type 0
+Table = List (Option Octets)
+
+-- what no radio has a part in: the settings, name and short name (260 octets as one), and the six tables
+pub record Host : Type 0 where
+  pub settings : HostSettings
+  pub name : Octets
+  pub tables : List Table
+
+-- A controller. What decides whether a command is started is `radio`, and only the five settings commands that can be Busy change it.
+pub record Controller : Type 0 where
+  pub radio : RadioSettings
+  pub host : Host
+
+-- the plain hub, "with no open command in it": the at-once hub's whole state
+pub record PlainHub : Type 0 where
+  pub clock : ℕ
+  pub controllers : List (Option Controller)
+
+-- a command under way, "open": its code and parameters
+pub record OpenCommand : Type 0 where
+  pub code : ℕ
+  pub params : Octets
+
+-- our hub: the plain hub, and for each index the command under way
+pub record Hub : Type 0 where
+  pub plain : PlainHub
+  pub openCommands : List (Option OpenCommand)
+
+-- the fresh state has no controllers and clock 0
+unfoldable pub fresh : PlainHub
+fresh = record { clock = 0; controllers = replicate 4 none }
+
+-- our hub with nothing under way
+unfoldable pub idle : PlainHub → Hub
+idle p = record { plain = p; openCommands = replicate 4 none }
+
+-- the controller at an index, if the index is one of four and holds one
+unfoldable pub controllerAt : PlainHub → ℕ → Option Controller
+controllerAt p i = elim (ltb i 4) [ true ↦ getD (p .controllers) i none | false ↦ none ]
+
+unfoldable pub withController : PlainHub → ℕ → Option Controller → PlainHub
+withController p i x = record { clock = p .clock; controllers = set (p .controllers) i x }
+
+-- Settings ----------------------------------------------------------------------------------------------------------------------------------
+
+-- supported settings: bit 7 is BR/EDR, bit 9 is Low Energy
+unfoldable pub bredrSupported : Hardware → Bool
+bredrSupported f = bit 7 (f .supported)
+
+unfoldable pub leSupported : Hardware → Bool
+leSupported f = bit 9 (f .supported)
+
+-- the value of a bit that is on or off
+unfoldable pub flag : Bool → ℕ → ℕ
+flag true n = n
+flag false n = 0
+
+-- "bit 15 is set exactly if the static address is not zero and the public address is zero"
+unfoldable pub staticInUse : RadioSettings → Bool
+staticInUse r = not (allZero (r .staticAddress)) && allZero (r .hardware .publicAddress)
+
+-- Current_Settings: powered, connectable, discoverable, bondable, BR/EDR, Low Energy, static address
+unfoldable pub currentSettings : Settings → ℕ
+currentSettings s =
+    flag (s .radio .powered) 1
+    + flag (s .radio .connectable) 2
+    + flag (s .host .timer .discoverable) 8
+    + flag (s .host .bondable) 16
+    + flag (bredrSupported (s .radio .hardware)) 128
+    + flag (s .radio .lowEnergy) 512
+    + flag (staticInUse (s .radio)) 32768
+
+unfoldable pub settingsOf : Controller → Settings
+settingsOf c = record { radio = c .radio; host = c .host .settings }
+
+-- Plug --------------------------------------------------------------------------------------------------------------------------------------
+
+-- not discoverable, and no timer
+unfoldable pub noTimer : Timer
+noTimer = record { discoverable = false; seconds = 0 }
+
+unfoldable pub noTables : List Table
+noTables = replicate 6 (replicate 32 none)
+
+-- "plug sets current settings to supported bits 7 and 9, everything else zero or empty"
+unfoldable pub plugged : Hardware → Controller
+plugged f = record {
+  radio = record { hardware = f; powered = false; connectable = false; lowEnergy = leSupported f; staticAddress = replicate 6 0 };
+  host = record { settings = record { timer = noTimer; bondable = false }; name = replicate 260 0; tables = noTables };
+}
+
+-- what plug and an image may give: six octets of address, no supported bits above 15, bit 7 or 9, and bit 7 only with a public address
+unfoldable pub hardwareOk : Hardware → Bool
+hardwareOk f =
+    eqb (length (f .publicAddress)) 6
+    && (ltb (f .supported) 65536
+    && ((bredrSupported f || leSupported f)
+    && not (bredrSupported f && allZero (f .publicAddress))))
+
+-- Values that commands and images share ---------------------------------------------------------------------------------------------------------
+
+-- a static random address: "a sixth octet of at least 0xC0"
+unfoldable pub staticRandom : Octets → Bool
+staticRandom a = leb 0xC0 (octet a 5)
+
+-- "zero, or the sixth octet at least 0xC0"
+unfoldable pub staticAddressOk : Octets → Bool
+staticAddressOk a = allZero a || staticRandom a
+
+-- "last octet of each zero": of the name, 249 octets, and of the short name, 11
+unfoldable pub nameEnds : Octets → Bool
+nameEnds n = eqb (octet n 248) 0
+
+unfoldable pub shortNameEnds : Octets → Bool
+shortNameEnds n = eqb (octet n 259) 0
+
+-- Parts replaced ------------------------------------------------------------------------------------------------------------------------------
+
+unfoldable pub withHost : Controller → Host → Controller
+withHost c h = record { radio = c .radio; host = h }
+
+unfoldable pub withTimer : Host → Timer → Host
+withTimer h t = record { settings = record { timer = t; bondable = h .settings .bondable }; name = h .name; tables = h .tables }
+
+unfoldable pub withBondable : Host → Bool → Host
+withBondable h b = record { settings = record { timer = h .settings .timer; bondable = b }; name = h .name; tables = h .tables }
+
+unfoldable pub withName : Host → Octets → Host
+withName h n = record { settings = h .settings; name = n; tables = h .tables }
+
+unfoldable pub tableOf : Host → ℕ → Table
+tableOf h k = getD (h .tables) k []
+
+unfoldable pub withTable : Host → ℕ → Table → Host
+withTable h k t = record { settings = h .settings; name = h .name; tables = set (h .tables) k t }
+
+unfoldable pub withPowered : RadioSettings → Bool → RadioSettings
+withPowered r b = record { hardware = r .hardware; powered = b; connectable = r .connectable; lowEnergy = r .lowEnergy; staticAddress = r .staticAddress }
+
+unfoldable pub withConnectable : RadioSettings → Bool → RadioSettings
+withConnectable r b = record { hardware = r .hardware; powered = r .powered; connectable = b; lowEnergy = r .lowEnergy; staticAddress = r .staticAddress }
+
+unfoldable pub withLowEnergy : RadioSettings → Bool → RadioSettings
+withLowEnergy r b = record { hardware = r .hardware; powered = r .powered; connectable = r .connectable; lowEnergy = b; staticAddress = r .staticAddress }
+
+unfoldable pub withStaticAddress : RadioSettings → Octets → RadioSettings
+withStaticAddress r a = record { hardware = r .hardware; powered = r .powered; connectable = r .connectable; lowEnergy = r .lowEnergy; staticAddress = a }
+
+-- Named on an `unfolding` line, this opens every definition of the module: for examples that are computed.
+unfoldable pub open-state : Unit {0}
+unfolding fresh idle controllerAt withController bredrSupported leSupported flag staticInUse currentSettings settingsOf noTimer noTables plugged hardwareOk staticRandom staticAddressOk nameEnds shortNameEnds withHost withTimer withBondable withName tableOf withTable withPowered withConnectable withLowEnergy withStaticAddress
+open-state = tt
