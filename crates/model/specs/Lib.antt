@@ -11,4 +11,7 @@ pub mod WellFormed
 pub mod Layout
 pub mod Meanings
 pub mod Demand3
+pub mod Examples
+pub mod LazyPrograms
 pub mod Proof
+pub mod Theorems

@@ -6,7 +6,6 @@ use mathlib.Core.List.{List, [], _∷_, _++_}
 use mathlib.Core.Option.{Option, none, some}
 
 infix 20 _⇒_
-
 pub data Reason : Type 0 where
   -- the order inside a command: code, index, length
   codeUnknown indexNotNone controllerAbsent lengthWrong : Reason

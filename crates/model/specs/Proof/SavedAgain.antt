@@ -192,9 +192,10 @@ controllers-again (suc m) low l (i ∷ o) s w n h e =
     let v : Option Controller = some (b .0 .value) in
     let wo : bytes o ≡ true = and-true (ltb i 256) _ w .1 in
     let im : controllerImages 0 (set l i v) ≡ controllerImages 0 l ++ (controllerImage i (b .0 .value) ∷ []) = rw (zero-add i) at (images-set 0 i l (b .0 .value) (omega arith) (λ j g. h j (omega arith))) in
-    let ih = controllers-again m (suc i) (set l i v) (b .0 .behind) s (controller-load o (b .0) wo (b .1) .1) (length-set l i v ∙ n) (free-set l i low v lo h) (b .2) in
-    (ih .0 ∙ rw im (joined-last (controllerImages 0 l) (controllerImage i (b .0 .value)) (b .0 .behind) (i ∷ o) (controller-again i o (b .0) wo (b .1))),
-     ih .1 ∙ rw im (rw (length-append (controllerImages 0 l) (controllerImage i (b .0 .value) ∷ [])) (omega arith)))
+    let ih = controllers-again m (suc i) (set l i v) (b .0 .behind) s (controller-load o (b .0) wo (b .1) .1) (length-set l i v ∙ n) (free-set l i low v lo h) (b .2) in (
+      ih .0 ∙ rw im (joined-last (controllerImages 0 l) (controllerImage i (b .0 .value)) (b .0 .behind) (i ∷ o) (controller-again i o (b .0) wo (b .1))),
+      ih .1 ∙ rw im (rw (length-append (controllerImages 0 l) (controllerImage i (b .0 .value) ∷ [])) (omega arith)),
+    )
 
 -- 6. The whole --------------------------------------------------------------------------------------------------------------------------------------
 
