@@ -164,7 +164,7 @@ blockDevice = record {
   act = λ i c ps.
       let t : Table = tableOf (c .host) blockedDevices in
       let q : Immediate = done ps (event 0x0014 i ps) (withTable (c .host) blockedDevices (added ps t)) in
-      unless (firstOf (blockedRule .checks ps ++ ((holds (same ps) t ⇒ alreadyBlocked) ∷ (full t ⇒ noFreeSlot) ∷ []))) q;
+      unless (firstOf (blockedRule .checks ps ++ ((holds (begins 7 ps) t ⇒ alreadyBlocked) ∷ (full t ⇒ noFreeSlot) ∷ []))) q;
 }
 
 -- "0x0027 Unblock [7] type 0 to 2, address not zero; unblocking an absent one: Invalid Parameters (house)"
@@ -174,8 +174,8 @@ unblockDevice = record {
   byAddress = true;
   act = λ i c ps.
       let t : Table = tableOf (c .host) blockedDevices in
-      let q : Immediate = done ps (event 0x0015 i ps) (withTable (c .host) blockedDevices (freed (same ps) t)) in
-      unless (firstOf (blockedRule .checks ps ++ ((not (holds (same ps) t) ⇒ notBlocked) ∷ []))) q;
+      let q : Immediate = done ps (event 0x0015 i ps) (withTable (c .host) blockedDevices (freed (begins 7 ps) t)) in
+      unless (firstOf (blockedRule .checks ps ++ ((not (holds (begins 7 ps) t) ⇒ notBlocked) ∷ []))) q;
 }
 
 -- "0x0033 Add Device [8]. Present: action replaced. No slot: No Resources." Device Added on every success, with address, type and action.

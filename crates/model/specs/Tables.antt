@@ -176,7 +176,7 @@ unfoldable pub blockedRule : TableRule
 blockedRule = record {
   size = 7;
   checks = λ r. (allZero (take 6 r) ⇒ addressZero) ∷ (ltb 2 (octet r 6) ⇒ addressTypeAbove2) ∷ [];
-  key = λ r. r;
+  key = take 7;
   support = needsNothing;
 }
 

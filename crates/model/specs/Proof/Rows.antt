@@ -253,7 +253,7 @@ keeps-unpair i c ps e w z = unless-ok c _ _ (λ n.
     change two 3 (freed m (tableOf (c .host) 3)) e2 (freed-ok identityKeyRule (c .radio .hardware) m _ (table-ok c 3 e (lit< tt))))
 
 keeps-block : KeepsImmediate blockDevice
-unfolding KeepsImmediate blockDevice ImmediateOk sized blockedRule ruleAt tableRules holds
+unfolding KeepsImmediate blockDevice ImmediateOk sized begins blockedRule ruleAt tableRules holds
 keeps-block i c ps e w z = unless-ok c _ _ (λ n.
     let a = first-append (blockedRule .checks ps) _ n in
     let b = first-none _ _ (a .1) in
