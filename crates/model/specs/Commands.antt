@@ -47,6 +47,7 @@ readIndexes p = let l : List ℕ = presentFrom 0 (p .controllers) in le16 (lengt
 abbrev pub Row : Type 0
 Row = ℕ × Rule
 
+-- the 21 commands, codes ascending
 unfoldable pub rows : List Row
 rows =
     (0x0001, general readVersion)
@@ -72,6 +73,7 @@ rows =
     ∷ (0x0034, immediate removeDevice)
     ∷ []
 
+-- the rule in the first row of this code
 unfoldable pub find : ℕ → List Row → Option Rule
 find code [] = none
 find code (r ∷ rs) = elim (eqb (r .0) code) [ true ↦ some (r .1) | false ↦ find code rs ]

@@ -35,6 +35,7 @@ module _ {S : Type 0} (run : S → Call → Result S) where
 abbrev pub Pending : Type 0
 Pending = List (Option Octets)
 
+-- no command is open
 unfoldable pub noPending : Pending
 noPending = replicate 4 none
 
@@ -51,9 +52,11 @@ pub record Sorted : Type 0 where
   pub pending : Pending
   pub left : List Left
 
+-- an entry that leaves nothing
 unfoldable pub struck : Pending → Sorted
 struck k = record { pending = k; left = [] }
 
+-- an entry that leaves its call
 unfoldable pub kept : Pending → Call → ℕ → Octets → Sorted
 kept k c a o = record { pending = k; left = record { call = c; answer = a; owed = []; octets = o } ∷ [] }
 

@@ -19,10 +19,11 @@ use Rattle.model.specs.Layout.{open-layout, stateLength}
 use Rattle.model.specs.Meanings.{open-meanings, meaning, hubLoad}
 use Rattle.model.specs.Demand3.{open-demand3, after}
 
--- the fresh state, as load makes it from the empty image: `00 00 00 06 01 00`
+-- the empty image: `00 00 00 06 01 00`
 unfoldable pub emptyImage : Octets
 emptyImage = 0 ∷ 0 ∷ 0 ∷ 6 ∷ 1 ∷ 0 ∷ []
 
+-- "The fresh state has no controllers and clock 0; loading the empty image makes it."
 unfoldable pub start : Octets
 start = hubLoad (replicate stateLength 0) emptyImage .state
 
@@ -34,19 +35,23 @@ behind before c = let r : Result Octets = meaning (after meaning start before) c
 unfoldable pub to : Octets → Call
 to packet = command 1024 packet
 
--- a dual-mode controller at index 0
+-- a dual-mode controller
 unfoldable pub dualHardware : Hardware
 dualHardware = record { publicAddress = 1 ∷ 2 ∷ 3 ∷ 4 ∷ 5 ∷ 6 ∷ []; version = 6; manufacturer = 15; supported = 0x0281 }
 
+-- a dual-mode controller is plugged at index 0
 unfoldable pub plugDual : Call
 plugDual = plug 1024 0 dualHardware
 
+-- `01 00 FF FF 00 00`
 unfoldable pub readVersionPacket : Octets
 readVersionPacket = 0x01 ∷ 0x00 ∷ 0xFF ∷ 0xFF ∷ 0x00 ∷ 0x00 ∷ []
 
+-- `08 00 00 00 00 00`
 unfoldable pub unknownPacket : Octets
 unknownPacket = 0x08 ∷ 0x00 ∷ 0x00 ∷ 0x00 ∷ 0x00 ∷ 0x00 ∷ []
 
+-- `05 00 00 00 01 00 01`
 unfoldable pub powerOn : Call
 powerOn = to (0x05 ∷ 0x00 ∷ 0x00 ∷ 0x00 ∷ 0x01 ∷ 0x00 ∷ 0x01 ∷ [])
 
@@ -55,6 +60,7 @@ unfoldable pub linkKeyRecords : ℕ → Octets
 linkKeyRecords zero = []
 linkKeyRecords (suc n) = (n ∷ replicate 24 0) ++ linkKeyRecords n
 
+-- Load Link Keys with n keys and the right length
 unfoldable pub linkKeyPacket : ℕ → Octets
 linkKeyPacket n = 0x12 ∷ 0 ∷ 0 ∷ 0 ∷ (le16 (3 + 25 * n) ++ (0 ∷ (le16 n ++ linkKeyRecords n)))
 
@@ -62,20 +68,24 @@ linkKeyPacket n = 0x12 ∷ 0 ∷ 0 ∷ 0 ∷ (le16 (3 + 25 * n) ++ (0 ∷ (le16 
 unfoldable pub wrappedPacket : Octets
 wrappedPacket = 0x12 ∷ 0 ∷ 0 ∷ 0 ∷ 17 ∷ 0 ∷ 0 ∷ 0x3E ∷ 0x0A ∷ replicate 14 0
 
+-- Add UUID, of a UUID that begins with u
 unfoldable pub addHint : ℕ → ℕ → Call
 addHint u hint = to (0x10 ∷ 0 ∷ 0 ∷ 0 ∷ 17 ∷ 0 ∷ u ∷ (replicate 15 0 ++ (hint ∷ [])))
 
+-- Remove UUID, of the UUID that begins with u
 unfoldable pub removeHint : ℕ → Call
 removeHint u = to (0x11 ∷ 0 ∷ 0 ∷ 0 ∷ 16 ∷ 0 ∷ u ∷ replicate 15 0)
 
--- four controllers with all tables full: record k of a table begins with k + 1
+-- n records
 unfoldable pub records : (ℕ → Octets) → ℕ → List Octets
 records f zero = []
 records f (suc n) = f n ∷ records f n
 
+-- 32 records
 unfoldable pub fullTable : (ℕ → Octets) → Table
 fullTable f = loaded (records f 32)
 
+-- a controller with all tables full: record k of a table begins with k + 1
 unfoldable pub fullController : Controller
 fullController = record {
   radio = plugged dualHardware .radio;
@@ -93,6 +103,7 @@ fullController = record {
   };
 }
 
+-- four such controllers
 unfoldable pub fullHub : PlainHub
 fullHub = record { clock = 0; controllers = replicate 4 (some fullController) }
 
@@ -105,9 +116,11 @@ pub record Example : Type 0 where
   pub given : List ℕ
   pub paper : List ℕ
 
+-- given, and as the paper says
 unfoldable pub gives : List ℕ → List ℕ → Example
 gives g p = record { given = g; paper = p }
 
+-- the examples, in the paper's order
 unfoldable pub examples : List Example
 examples =
     -- `01 00 FF FF 00 00` gives `01 00 FF FF 06 00 01 00 00 01 0A 00`, answer 0; 1,024 octets of reply buffer are enough
@@ -141,6 +154,7 @@ examples =
     ∷ gives (valid fullHub ∷ length (image fullHub) ∷ []) (1 ∷ 16014 ∷ [])
     ∷ []
 
+-- each gives what the paper says
 unfoldable pub allGiven : List Example → Bool
 allGiven [] = true
 allGiven (e ∷ es) = same (e .given) (e .paper) && allGiven es

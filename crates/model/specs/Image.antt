@@ -80,6 +80,7 @@ radioOk r =
 unfoldable pub flagsOk : ℕ → Bool
 flagsOk n = eqb n (flag (bit 1 n) 2 + flag (bit 4 n) 16 + flag (bit 9 n) 512)
 
+-- "last octet of each zero", of name and short name
 unfoldable pub nameOk : Octets → Bool
 nameOk n = nameEnds n && shortNameEnds n
 
@@ -129,16 +130,19 @@ load o =
 unfoldable pub closedUp : Table → Table
 closedUp t = loaded (entries t)
 
+-- a controller with power, discoverable and timer cleared and slots closed up
 unfoldable pub reloaded : Controller → Controller
 reloaded c = record {
   radio = record { hardware = c .radio .hardware; powered = false; connectable = c .radio .connectable; lowEnergy = c .radio .lowEnergy; staticAddress = c .radio .staticAddress };
   host = record { settings = record { timer = noTimer; bondable = c .host .settings .bondable }; name = c .host .name; tables = map closedUp (c .host .tables) };
 }
 
+-- the same at an index, where there may be no controller
 unfoldable pub reloadedSlot : Option Controller → Option Controller
 reloadedSlot none = none
 reloadedSlot (some c) = some (reloaded c)
 
+-- the same of the whole hub: clock cleared too; open commands are no part of it
 unfoldable pub reloadedHub : PlainHub → PlainHub
 reloadedHub p = record { clock = 0; controllers = map reloadedSlot (p .controllers) }
 

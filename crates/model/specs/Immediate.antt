@@ -136,6 +136,7 @@ unpaired m h =
     let two : Host = withTable one longTermKeys (freed m (tableOf h longTermKeys)) in
     withTable two identityKeys (freed m (tableOf h identityKeys))
 
+-- there is a key "under this address and type", of any of the three kinds
 unfoldable pub anyKey : (Octets → Bool) → Host → Bool
 anyKey m h = holds m (tableOf h linkKeys) || (holds m (tableOf h longTermKeys) || holds m (tableOf h identityKeys))
 

@@ -21,10 +21,11 @@ unfoldable pub told : List Entry → List ℕ
 told [] = []
 told (entry c a o ∷ es) = a ∷ (o ++ told es)
 
--- Set Bondable on, and off
+-- Set Bondable on
 unfoldable pub bondableOn : Call
 bondableOn = to (0x09 ∷ 0 ∷ 0 ∷ 0 ∷ 1 ∷ 0 ∷ 1 ∷ [])
 
+-- Set Bondable off
 unfoldable pub bondableOff : Call
 bondableOff = to (0x09 ∷ 0 ∷ 0 ∷ 0 ∷ 1 ∷ 0 ∷ 0 ∷ [])
 
@@ -60,9 +61,11 @@ pub record Once : Type 0 where
   pub acted : Bool
   pub hub : Hub
 
+-- a result, with what it remembers
 unfoldable pub withHub : Bool → Result Hub → Result Once
 withHub b r = record { answer = r .answer; octets = r .octets; state = record { acted = b; hub = r .state } }
 
+-- by whether it has acted
 unfoldable pub actsOnceBy : Bool → Hub → Call → Result Once
 actsOnceBy true h (command room packet) = withHub true (storesNothing h (command room packet))
 actsOnceBy false h (command room packet) = withHub true (call h (command room packet))
@@ -72,22 +75,28 @@ actsOnceBy b h (plug room i f) = withHub b (call h (plug room i f))
 actsOnceBy b h (unplug room i) = withHub b (call h (unplug room i))
 actsOnceBy b h (save room) = withHub b (call h (save room))
 
+-- the program itself
 unfoldable pub actsOnce : Once → Call → Result Once
 actsOnce s c = actsOnceBy (s .acted) (s .hub) c
 
--- NONE IS THE MODEL: for each a list of calls, from the fresh state, that is told something else
+-- NONE IS THE MODEL: for each a list of calls, from the fresh state, that is told something else ---------------------------------------------------
+
+-- one that always answers Busy or 6
 pub always-busy-differs : same (told (trace alwaysBusy (idle fresh) (to readVersionPacket ∷ []))) (told (trace call (idle fresh) (to readVersionPacket ∷ []))) ≡ false
 unfolding open-octets open-state open-reasons open-tables open-rules open-immediate open-commands open-image open-hub open-demand3 to readVersionPacket told alwaysBusy
 always-busy-differs = refl
 
+-- one that always replies success with the same settings
 pub same-settings-differs : same (told (trace sameSettings (idle fresh) (plugDual ∷ bondableOn ∷ []))) (told (trace call (idle fresh) (plugDual ∷ bondableOn ∷ []))) ≡ false
 unfolding open-octets open-state open-reasons open-tables open-rules open-immediate open-commands open-image open-hub open-demand3 to dualHardware plugDual bondableOn told sameSettings
 same-settings-differs = refl
 
+-- one that accepts and stores nothing
 pub stores-nothing-differs : same (told (trace storesNothing (idle fresh) (plugDual ∷ bondableOn ∷ save 16014 ∷ []))) (told (trace call (idle fresh) (plugDual ∷ bondableOn ∷ save 16014 ∷ []))) ≡ false
 unfolding open-octets open-state open-reasons open-tables open-rules open-immediate open-commands open-image open-hub open-demand3 to dualHardware plugDual bondableOn told storesNothing
 stores-nothing-differs = refl
 
+-- one that acts on the first command and afterwards only replies
 pub acts-once-differs : same (told (trace actsOnce (record { acted = false; hub = idle fresh }) (plugDual ∷ bondableOn ∷ bondableOff ∷ save 16014 ∷ [])))
     (told (trace call (idle fresh) (plugDual ∷ bondableOn ∷ bondableOff ∷ save 16014 ∷ []))) ≡ false
 unfolding open-octets open-state open-reasons open-tables open-rules open-immediate open-commands open-image open-hub open-demand3 to dualHardware plugDual bondableOn bondableOff told storesNothing withHub actsOnceBy actsOnce

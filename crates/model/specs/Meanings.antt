@@ -26,6 +26,7 @@ badState s = record { answer = 5; octets = []; state = s }
 unfoldable pub laidOut : Result Hub → Result Octets
 laidOut r = record { answer = r .answer; octets = r .octets; state = encode (r .state) }
 
+-- the same for the at-once hub: nothing is under way in its state
 unfoldable pub laidOutPlain : Result PlainHub → Result Octets
 laidOutPlain r = record { answer = r .answer; octets = r .octets; state = encode (idle (r .state)) }
 
@@ -42,29 +43,37 @@ unfoldable pub loadedInto : Octets → Option PlainHub → Result Octets
 loadedInto s none = record { answer = 7; octets = []; state = s }
 loadedInto s (some p) = record { answer = 0; octets = []; state = encode (idle p) }
 
+-- load itself: the length of the state buffer, then the image
 unfoldable pub loadMeaning : Octets → Octets → Result Octets
 loadMeaning s image = elim (eqb (length s) stateLength) [ true ↦ loadedInto s (load image) | false ↦ badState s ]
 
 -- The seven calls by name -----------------------------------------------------------------------------------------------------------------------
 
+-- "a command packet"
 unfoldable pub hubCommand : (state packet : Octets) (room : ℕ) → Result Octets
 hubCommand s packet room = meaning s (command room packet)
 
+-- "a radio report (index, status)"
 unfoldable pub hubReport : (state : Octets) (index status room : ℕ) → Result Octets
 hubReport s i status room = meaning s (report room i status)
 
+-- "a clock reading in seconds"
 unfoldable pub hubClock : (state : Octets) (reading room : ℕ) → Result Octets
 hubClock s reading room = meaning s (clock room reading)
 
+-- "plug (index, public address, version octet, manufacturer, supported settings)"
 unfoldable pub hubPlug : (state : Octets) (index : ℕ) (hardware : Hardware) (room : ℕ) → Result Octets
 hubPlug s i f room = meaning s (plug room i f)
 
+-- "unplug"
 unfoldable pub hubUnplug : (state : Octets) (index room : ℕ) → Result Octets
 hubUnplug s i room = meaning s (unplug room i)
 
+-- "save"
 unfoldable pub hubSave : (state : Octets) (room : ℕ) → Result Octets
 hubSave s room = meaning s (save room)
 
+-- "load, which makes a state from an image and is only a start"
 unfoldable pub hubLoad : (state image : Octets) → Result Octets
 hubLoad s image = loadMeaning s image
 

@@ -13,24 +13,27 @@ Octets = List ℕ
 unfoldable pub octet : Octets → ℕ → ℕ
 octet o k = getD o k 0
 
--- a number in two and in four octets, low octet first: packets, events and the state
+-- "Packets are little-endian": a number in two octets, low octet first; so in events and in the state
 unfoldable pub le16 : ℕ → Octets
 le16 n = n % 256 ∷ n / 256 % 256 ∷ []
 
+-- a number in four octets, low octet first
 unfoldable pub le32 : ℕ → Octets
 le32 n = n % 256 ∷ n / 256 % 256 ∷ n / 65536 % 256 ∷ n / 16777216 % 256 ∷ []
 
--- a number in two and in four octets, high octet first: the image
+-- "Our image is big-endian": a number in two octets, high octet first
 unfoldable pub be16 : ℕ → Octets
 be16 n = n / 256 % 256 ∷ n % 256 ∷ []
 
+-- a number in four octets, high octet first
 unfoldable pub be32 : ℕ → Octets
 be32 n = n / 16777216 % 256 ∷ n / 65536 % 256 ∷ n / 256 % 256 ∷ n % 256 ∷ []
 
--- the number in the two and in the four octets at a place, low octet first
+-- the number in the two octets at a place, low octet first
 unfoldable pub u16 : Octets → ℕ → ℕ
 u16 o k = getD o k 0 + 256 * getD o (k + 1) 0
 
+-- the number in the four octets at a place, low octet first
 unfoldable pub u32 : Octets → ℕ → ℕ
 u32 o k = u16 o k + 65536 * u16 o (k + 2)
 

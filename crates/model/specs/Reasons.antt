@@ -6,6 +6,7 @@ use mathlib.Core.List.{List, [], _∷_, _++_}
 use mathlib.Core.Option.{Option, none, some}
 
 infix 20 _⇒_
+-- the conditions, in 01's groups
 pub data Reason : Type 0 where
   -- the order inside a command: code, index, length
   codeUnknown indexNotNone controllerAbsent lengthWrong : Reason
@@ -22,7 +23,7 @@ pub data Reason : Type 0 where
   -- the tables' answers
   noFreeSlot uuidAbsent notPaired alreadyBlocked notBlocked deviceAbsent : Reason
 
--- the status of each
+-- the status of each, by the error codes of source 001
 unfoldable pub statusOf : Reason → ℕ
 -- Unknown Command
 statusOf codeUnknown = 0x01
@@ -79,6 +80,7 @@ pub record Check : Type 0 where
   pub fails : Bool
   pub reason : Reason
 
+-- a condition, and the reason if it holds
 abbrev pub _⇒_ : Bool → Reason → Check
 b ⇒ r = record { fails = b; reason = r }
 

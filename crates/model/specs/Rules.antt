@@ -48,6 +48,7 @@ newSettings i c d =
       | false ↦ event 0x0006 i (le32 (currentSettings (settingsOf d)))
     ]
 
+-- both on, or both off
 unfoldable pub sameBool : Bool → Bool → Bool
 sameBool true b = b
 sameBool false b = not b

@@ -18,11 +18,12 @@ entries [] = []
 entries (none ∷ t) = entries t
 entries (some r ∷ t) = r ∷ entries t
 
--- some record, and every record, is such a one
+-- some record is such a one
 unfoldable pub any : (Octets → Bool) → List Octets → Bool
 any m [] = false
 any m (r ∷ rs) = m r || any m rs
 
+-- every record is such a one
 unfoldable pub every : (Octets → Bool) → List Octets → Bool
 every m [] = true
 every m (r ∷ rs) = m r && every m rs
@@ -31,7 +32,7 @@ every m (r ∷ rs) = m r && every m rs
 unfoldable pub holds : (Octets → Bool) → Table → Bool
 holds m t = any m (entries t)
 
--- no two are the same
+-- "Two records with one address and type are Invalid Parameters": no two are the same
 unfoldable pub distinct : List Octets → Bool
 distinct [] = true
 distinct (k ∷ ks) = not (any (same k) ks) && distinct ks
@@ -86,6 +87,7 @@ pub record TableRule : Type 0 where
   pub key : Octets → Octets
   pub support : Hardware → List Check
 
+-- there is no record
 unfoldable pub empty : List Octets → Bool
 empty [] = true
 empty (r ∷ rs) = false
@@ -104,31 +106,39 @@ supportOk u f rs = empty rs || passes (u .support f)
 
 -- The six tables ------------------------------------------------------------------------------------------------------------------------------
 
--- their places, in 01's order
+-- their places, in 01's order: UUIDs
 abbrev pub uuids : ℕ
 uuids = 0
 
+-- link keys
 abbrev pub linkKeys : ℕ
 linkKeys = 1
 
+-- long term keys
 abbrev pub longTermKeys : ℕ
 longTermKeys = 2
 
+-- identity resolving keys
 abbrev pub identityKeys : ℕ
 identityKeys = 3
 
+-- blocked devices
 abbrev pub blockedDevices : ℕ
 blockedDevices = 4
 
+-- devices of the action list
 abbrev pub devices : ℕ
 devices = 5
 
+-- UUIDs, blocked devices and devices need no support
 unfoldable pub needsNothing : Hardware → List Check
 needsNothing f = []
 
+-- "Link keys need BR/EDR support"
 unfoldable pub needsBredr : Hardware → List Check
 needsBredr f = (not (bredrSupported f) ⇒ bredrNotSupported) ∷ []
 
+-- "the other two LE support"
 unfoldable pub needsLe : Hardware → List Check
 needsLe f = (not (leSupported f) ⇒ leNotSupported) ∷ []
 

@@ -30,6 +30,7 @@ addressed r = not (allZero (r .hardware .publicAddress) && allZero (r .staticAdd
 unfoldable pub settingsFit : (discoverable connectable noTimer powered addressed : Bool) → Bool
 settingsFit d k z w a = (not d || k) && ((z || (w && d)) && (not w || a))
 
+-- these three rules, of a controller
 unfoldable pub timerOk : Controller → Bool
 timerOk c = settingsFit (c .host .settings .timer .discoverable) (c .radio .connectable) (eqb (c .host .settings .timer .seconds) 0) (c .radio .powered) (addressed (c .radio))
 
@@ -40,6 +41,7 @@ widthsOk c =
     && ((bytes (c .radio .hardware .publicAddress) && bytes (c .radio .staticAddress))
     && (bytes (c .host .name) && ltb (c .host .settings .timer .seconds) 65536))
 
+-- all rules of a present controller: the image's, those of its settings, and the widths
 unfoldable pub controllerOk : Controller → Bool
 controllerOk c =
     radioOk (c .radio)
@@ -48,10 +50,12 @@ controllerOk c =
     && (tablesOk (c .radio .hardware) tableRules (c .host .tables)
     && (timerOk c && widthsOk c))))
 
+-- an absent controller keeps every rule
 unfoldable pub slotOk : Option Controller → Bool
 slotOk none = true
 slotOk (some c) = controllerOk c
 
+-- every index
 unfoldable pub slotsOk : List (Option Controller) → Bool
 slotsOk [] = true
 slotsOk (s ∷ ss) = slotOk s && slotsOk ss
@@ -66,6 +70,7 @@ openOk s none = true
 openOk none (some o) = false
 openOk (some c) (some o) = starts (c .radio) o && bytes (o .params)
 
+-- the same at each index
 unfoldable pub opensOk : List (Option Controller) → List (Option OpenCommand) → Bool
 opensOk [] [] = true
 opensOk [] (o ∷ os) = false
@@ -78,6 +83,7 @@ wellFormed h = plainOk (h .plain) && opensOk (h .plain .controllers) (h .openCom
 
 -- Arguments -----------------------------------------------------------------------------------------------------------------------------------
 
+-- what plug is given: version 8 bits, manufacturer 16, octets (supported bits above 15 are answer 6, so their width needs no rule)
 unfoldable pub hardwareWide : Hardware → Bool
 hardwareWide f = (ltb (f .version) 256 && ltb (f .manufacturer) 65536) && bytes (f .publicAddress)
 
@@ -90,6 +96,7 @@ callWide (plug room i f) = hardwareWide f
 callWide (unplug room i) = true
 callWide (save room) = true
 
+-- all calls of a list
 unfoldable pub callsWide : List Call → Bool
 callsWide [] = true
 callsWide (c ∷ cs) = callWide c && callsWide cs
