@@ -1,10 +1,10 @@
 -- Demand 3, the statement: every list of calls with a slow radio equals the same list, reduced, on a hub that needs no radio.
-use Prim.Native.Nat.{ℕ, zero, suc, _+_, _*_}
+use Prim.Native.Nat.{ℕ, _+_}
 use mathlib.Core.Path.{_≡_}
 use mathlib.Core.Bool.{Bool, true, false, _&&_}
 use mathlib.Core.List.{List, [], _∷_, _++_}
 use mathlib.Core.Option.{Option, none, some}
-use lib.ListN.{length, getD, set, replicate}
+use lib.ListN.{getD, set, replicate}
 use lib.Dec.{eqb}
 use Rattle.model.specs.Octets.{Octets, bytes, commandStatus}
 use Rattle.model.specs.Hub.{Call, command, report, clock, plug, unplug, save, Result, indexOf, codeOf}

@@ -1,12 +1,13 @@
 -- The calls. `callPlain` is the at-once hub: the rules with nothing under way. `call` is our hub, and says only where ours differs.
-use Prim.Native.Nat.{ℕ, zero, suc, _+_, _-_, _*_, _%_, _^_}
-use mathlib.Core.Bool.{Bool, true, false, _&&_, _||_, not}
+use Prim.Native.Nat.{ℕ, suc, _+_, _-_, _%_, _^_}
+use mathlib.Core.Bool.{Bool, true, false, _&&_, not}
 use mathlib.Core.List.{List, [], _∷_, _++_, map}
 use mathlib.Core.Option.{Option, none, some}
 use lib.ListN.{length, getD, take, drop, set}
 use lib.Dec.{eqb, leb, ltb}
 use Rattle.model.specs.Octets.{Octets, le32, u16, event, commandComplete, commandStatus}
-use Rattle.model.specs.State.{Hardware, RadioSettings, Timer, Controller, PlainHub, OpenCommand, Hub, currentSettings, settingsOf, controllerAt, withController, plugged, hardwareOk, noTimer, withTimer, withHost}
+use Rattle.model.specs.State.{Hardware, RadioSettings, Timer, Controller, PlainHub, OpenCommand, Hub, currentSettings, settingsOf, controllerAt, withController}
+use Rattle.model.specs.State.{plugged, hardwareOk, noTimer, withTimer, withHost}
 use Rattle.model.specs.Reasons.{Reason, codeUnknown, indexNotNone, controllerAbsent, lengthWrong, statusOf, firstOf, passes}
 use Rattle.model.specs.Rules.{Immediate, refuse, done, RadioRule, ImmediateRule, Rule, general, immediate, radio, newSettings}
 use Rattle.model.specs.Commands.{rule}
@@ -333,5 +334,7 @@ call h (save room) = keep h (callPlain (h .plain) (save room))
 
 -- Named on an `unfolding` line, this opens every definition of the module: for examples that are computed.
 unfoldable pub open-hub : Unit {0}
-unfolding answerOf refusalOctets octetsOf stateOf outcome byStatus refusalForm immediateDone immediateAt acted radioAfterBusy radioBeforeBusy radioAt generalOut byRule codeOf indexOf packetOk verdict stepOf ends countdown tick tickSlot tickEvents clockOut plugOut unplugOut within callPlain plainCall keep withOpen underWay openOf busyOr commandOut finishBy finish startsBy starts reportOut owedTo unplugged call
+unfolding answerOf refusalOctets octetsOf stateOf outcome byStatus refusalForm immediateDone immediateAt acted radioAfterBusy radioBeforeBusy radioAt generalOut byRule
+    codeOf indexOf packetOk verdict stepOf ends countdown tick tickSlot tickEvents clockOut plugOut unplugOut within callPlain plainCall keep withOpen underWay openOf
+    busyOr commandOut finishBy finish startsBy starts reportOut owedTo unplugged call
 open-hub = tt

@@ -4,9 +4,9 @@ use mathlib.Core.Bool.{Bool, true, false, _&&_, _||_, not}
 use mathlib.Core.List.{List, [], _∷_, _++_, map}
 use mathlib.Core.Option.{Option, none, some}
 use lib.ListN.{length, getD, take, drop, replicate, set}
-use lib.Dec.{eqb, leb, ltb}
-use Rattle.model.specs.Octets.{Octets, octet, bit, allZero, be16, be32, number, joined}
-use Rattle.model.specs.State.{Hardware, RadioSettings, Host, Controller, PlainHub, Table, flag, bredrSupported, leSupported, hardwareOk, staticAddressOk, nameEnds, shortNameEnds, noTimer}
+use lib.Dec.{eqb, leb}
+use Rattle.model.specs.Octets.{Octets, bit, allZero, be16, be32, number, joined}
+use Rattle.model.specs.State.{Hardware, RadioSettings, Controller, PlainHub, Table, flag, bredrSupported, leSupported, hardwareOk, staticAddressOk, nameEnds, shortNameEnds, noTimer}
 use Rattle.model.specs.Tables.{entries, loaded, chop, TableRule, recordsOk, supportOk, tableRules}
 
 -- Save --------------------------------------------------------------------------------------------------------------------------------------
@@ -23,7 +23,13 @@ flagsOf c = flag (c .radio .connectable) 2 + flag (c .host .settings .bondable) 
 unfoldable pub controllerImage : ℕ → Controller → Octets
 controllerImage i c =
     let f : Hardware = c .radio .hardware in
-    i ∷ (f .publicAddress ++ (f .version ∷ (be16 (f .manufacturer) ++ (be32 (f .supported) ++ (be32 (flagsOf c) ++ (c .radio .staticAddress ++ (c .host .name ++ joined (map tableImage (c .host .tables)))))))))
+    i ∷ (f .publicAddress
+    ++ (f .version ∷ (be16 (f .manufacturer)
+    ++ (be32 (f .supported)
+    ++ (be32 (flagsOf c)
+    ++ (c .radio .staticAddress
+    ++ (c .host .name
+    ++ joined (map tableImage (c .host .tables)))))))))
 
 -- "per controller ascending"
 unfoldable pub controllerImages : ℕ → List (Option Controller) → List Octets
@@ -148,5 +154,6 @@ reloadedHub p = record { clock = 0; controllers = map reloadedSlot (p .controlle
 
 -- Named on an `unfolding` line, this opens every definition of the module: for examples that are computed.
 unfoldable pub open-image : Unit {0}
-unfolding tableImage flagsOf controllerImage controllerImages image tableThen parseTables parseRadio radioOk flagsOk nameOk controllerThen parseController parseControllers load closedUp reloaded reloadedSlot reloadedHub
+unfolding tableImage flagsOf controllerImage controllerImages image tableThen parseTables parseRadio radioOk flagsOk nameOk controllerThen parseController
+    parseControllers load closedUp reloaded reloadedSlot reloadedHub
 open-image = tt

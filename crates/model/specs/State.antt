@@ -1,9 +1,9 @@
 -- The state: up to four controllers, index 0 to 3, the clock, and beside them the commands that wait for the radio.
-use Prim.Native.Nat.{ℕ, zero, suc, _+_, _*_}
+use Prim.Native.Nat.{ℕ, _+_}
 use mathlib.Core.Bool.{Bool, true, false, _&&_, _||_, not}
-use mathlib.Core.List.{List, [], _∷_, _++_}
-use mathlib.Core.Option.{Option, none, some}
-use lib.ListN.{length, getD, take, drop, replicate, set}
+use mathlib.Core.List.{List, []}
+use mathlib.Core.Option.{Option, none}
+use lib.ListN.{length, getD, replicate, set}
 use lib.Dec.{eqb, leb, ltb}
 pub use Rattle.model.specs.declared.Hardware.{Hardware}
 pub use Rattle.model.specs.declared.RadioSettings.{RadioSettings}
@@ -180,5 +180,6 @@ withStaticAddress r a = record { hardware = r .hardware; powered = r .powered; c
 
 -- Named on an `unfolding` line, this opens every definition of the module: for examples that are computed.
 unfoldable pub open-state : Unit {0}
-unfolding fresh idle controllerAt withController bredrSupported leSupported flag staticInUse currentSettings settingsOf noTimer noTables plugged hardwareOk staticRandom staticAddressOk nameEnds shortNameEnds withHost withTimer withBondable withName tableOf withTable withPowered withConnectable withLowEnergy withStaticAddress
+unfolding fresh idle controllerAt withController bredrSupported leSupported flag staticInUse currentSettings settingsOf noTimer noTables plugged hardwareOk staticRandom
+    staticAddressOk nameEnds shortNameEnds withHost withTimer withBondable withName tableOf withTable withPowered withConnectable withLowEnergy withStaticAddress
 open-state = tt

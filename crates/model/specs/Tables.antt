@@ -1,14 +1,15 @@
 -- Tables of 32 slots over records of any size, and the rules of the six tables that each controller has.
-use Prim.Native.Nat.{ℕ, zero, suc, _+_, _-_, _*_}
+use Prim.Native.Nat.{ℕ, zero, suc, _+_, _-_}
 use mathlib.Core.Bool.{Bool, true, false, _&&_, _||_, not}
 use mathlib.Core.List.{List, [], _∷_, _++_, map}
-use mathlib.Core.Option.{Option, none, some}
-use lib.ListN.{length, getD, take, drop, replicate, set}
-use lib.Dec.{eqb, leb, ltb}
+use mathlib.Core.Option.{none, some}
+use lib.ListN.{length, take, drop, replicate}
+use lib.Dec.{eqb, ltb}
 use Rattle.model.specs.Octets.{Octets, octet, same, allZero}
 use Rattle.model.specs.State.{Table, Hardware, bredrSupported, leSupported, staticRandom}
 use Rattle.model.specs.Reasons.{Check, _⇒_, passes}
-use Rattle.model.specs.Reasons.{keyTypeAbove8, keyTypeAbove4, masterAbove1, keySizeNot7To16, addressTypeNotBredr, addressTypeNotLe, addressTypeAbove2, addressZero, addressNotStaticRandom, uuidZero, actionAbove2, actionNot1ForBredr, bredrNotSupported, leNotSupported}
+use Rattle.model.specs.Reasons.{keyTypeAbove8, keyTypeAbove4, masterAbove1, keySizeNot7To16, addressTypeNotBredr, addressTypeNotLe, addressTypeAbove2, addressZero}
+use Rattle.model.specs.Reasons.{addressNotStaticRandom, uuidZero, actionAbove2, actionNot1ForBredr, bredrNotSupported, leNotSupported}
 
 -- Slots -------------------------------------------------------------------------------------------------------------------------------------
 
@@ -210,5 +211,6 @@ tableRules = uuidRule ∷ linkKeyRule ∷ longTermKeyRule ∷ identityKeyRule �
 
 -- Named on an `unfolding` line, this opens every definition of the module: for examples that are computed.
 unfoldable pub open-tables : Unit {0}
-unfolding entries any every holds distinct freed replaced added full stored loaded chop begins empty recordOk recordsOk supportOk needsNothing needsBredr needsLe uuidRule linkKeyRule leAddressChecks longTermKeyRule identityKeyRule blockedRule deviceRule tableRules
+unfolding entries any every holds distinct freed replaced added full stored loaded chop begins empty recordOk recordsOk supportOk needsNothing needsBredr needsLe uuidRule
+    linkKeyRule leAddressChecks longTermKeyRule identityKeyRule blockedRule deviceRule tableRules
 open-tables = tt
