@@ -1,0 +1,289 @@
+// The rules of the six tables' records, over records where they lie: at a place of a packet, of an image or of the lent state.
+// A table is known by its number, 0 to 5. "Slots from a place" are n slots of the table's record size, and slot j is in use if bit j of a
+// word is set: a table of the lent state has its occupancy word and 32 slots, a list of n records the word of n ones.
+ghost use mathlib.Core.Path.{_≡_};
+ghost use Prim.Native.Nat.{_+_, _-_, _*_, _^_, _≤_, _<_};
+ghost use mathlib.Core.List.{map};
+ghost use lib.ListN.{length};
+ghost use Rattle.model.specs.declared.Hardware.{Hardware};
+ghost use Rattle.model.specs.Octets.{same};
+ghost use Rattle.model.specs.Reasons.{passes};
+ghost use Rattle.model.specs.Tables as T;
+ghost use Rattle.model.specs.Proof.Rows.{ruleAt};
+ghost use Rattle.octets.specs.Parts.{part};
+ghost use Rattle.records.specs.Slots.{recordsAt};
+
+// The record size of table k.
+pub fn size_of(k: usize) -> usize
+    requires { ⌜ k < 6 ⌝ }
+    ensures { λ r. ⌜ r ≡ ruleAt k .size ⌝ }
+{
+    if k == 0 {
+        return 17;
+    }
+    if k == 1 {
+        return 25;
+    }
+    if k == 2 {
+        return 36;
+    }
+    if k == 3 {
+        return 23;
+    }
+    if k == 4 {
+        return 7;
+    }
+    8
+}
+
+// A UUID with its hint: the UUID is not zero.
+fn uuid_ok(s: &[u8], at: usize) -> bool
+    requires { ⌜ at + 17 ≤ length (now s) ⌝ }
+    ensures { λ r. ⌜ r ≡ passes (T.uuidRule .checks (part (now (s .entry)) at 17)) ⌝ }
+{
+    if octets::zero_part(s, at, 16) {
+        return false;
+    }
+    true
+}
+
+// A link key: address type 0, key type 0 to 8.
+fn link_key_ok(s: &[u8], at: usize) -> bool
+    requires { ⌜ at + 25 ≤ length (now s) ⌝ }
+    ensures { λ r. ⌜ r ≡ passes (T.linkKeyRule .checks (part (now (s .entry)) at 25)) ⌝ }
+{
+    if s[at + 6] != 0 {
+        return false;
+    }
+    s[at + 7] <= 8
+}
+
+// An address of a long term or identity key: type 1, or type 2 with a sixth octet of at least 0xC0.
+fn le_address_ok(s: &[u8], at: usize) -> bool
+    requires { ⌜ at + 7 ≤ length (now s) ⌝ }
+    ensures { λ r. ⌜ r ≡ passes (T.leAddressChecks (part (now (s .entry)) at 7)) ⌝ }
+{
+    if s[at + 6] == 1 {
+        return true;
+    }
+    if s[at + 6] == 2 {
+        return 0xC0 <= s[at + 5];
+    }
+    false
+}
+
+// A long term key: address, key type 0 to 4, master 0 or 1, size 7 to 16.
+fn long_term_key_ok(s: &[u8], at: usize) -> bool
+    requires { ⌜ at + 36 ≤ length (now s) ⌝ }
+    ensures { λ r. ⌜ r ≡ passes (T.longTermKeyRule .checks (part (now (s .entry)) at 36)) ⌝ }
+{
+    if le_address_ok(s, at) {
+        if 4 < s[at + 7] {
+            return false;
+        }
+        if 1 < s[at + 8] {
+            return false;
+        }
+        if s[at + 9] < 7 {
+            return false;
+        }
+        return s[at + 9] <= 16;
+    }
+    false
+}
+
+// An identity resolving key: its address.
+fn identity_key_ok(s: &[u8], at: usize) -> bool
+    requires { ⌜ at + 23 ≤ length (now s) ⌝ }
+    ensures { λ r. ⌜ r ≡ passes (T.identityKeyRule .checks (part (now (s .entry)) at 23)) ⌝ }
+{
+    le_address_ok(s, at)
+}
+
+// A blocked device: type 0 to 2, address not zero.
+fn blocked_ok(s: &[u8], at: usize) -> bool
+    requires { ⌜ at + 7 ≤ length (now s) ⌝ }
+    ensures { λ r. ⌜ r ≡ passes (T.blockedRule .checks (part (now (s .entry)) at 7)) ⌝ }
+{
+    if octets::zero_part(s, at, 6) {
+        return false;
+    }
+    s[at + 6] <= 2
+}
+
+// A device: type 0 to 2, action 0 to 2, address not zero; type 0 takes only action 1.
+fn device_ok(s: &[u8], at: usize) -> bool
+    requires { ⌜ at + 8 ≤ length (now s) ⌝ }
+    ensures { λ r. ⌜ r ≡ passes (T.deviceRule .checks (part (now (s .entry)) at 8)) ⌝ }
+{
+    if octets::zero_part(s, at, 6) {
+        return false;
+    }
+    if 2 < s[at + 6] {
+        return false;
+    }
+    if 2 < s[at + 7] {
+        return false;
+    }
+    if s[at + 6] == 0 {
+        return s[at + 7] == 1;
+    }
+    true
+}
+
+// Whether the record at a place keeps the rule of table k.
+pub fn record_ok(k: usize, s: &[u8], at: usize) -> bool
+    requires { ⌜ (k < 6) × (at + ruleAt k .size ≤ length (now s)) ⌝ }
+    ensures { λ r. ⌜ r ≡ passes (ruleAt k .checks (part (now (s .entry)) at (ruleAt k .size))) ⌝ }
+{
+    if k == 0 {
+        return uuid_ok(s, at);
+    }
+    if k == 1 {
+        return link_key_ok(s, at);
+    }
+    if k == 2 {
+        return long_term_key_ok(s, at);
+    }
+    if k == 3 {
+        return identity_key_ok(s, at);
+    }
+    if k == 4 {
+        return blocked_ok(s, at);
+    }
+    device_ok(s, at)
+}
+
+// Whether the records of table k at two places have one identity. The octet that most often tells two apart is compared first: of UUIDs
+// the low octet of the 16-bit number that the common ones hold, of addresses the first.
+pub fn same_identity(k: usize, s: &[u8], a: usize, b: usize) -> bool
+    requires { ⌜ (k < 6) × (a + ruleAt k .size ≤ length (now s)) × (b + ruleAt k .size ≤ length (now s)) ⌝ }
+    ensures { λ r. ⌜ r ≡ same (ruleAt k .key (part (now (s .entry)) a (ruleAt k .size))) (ruleAt k .key (part (now (s .entry)) b (ruleAt k .size))) ⌝ }
+{
+    if k == 0 {
+        if s[a + 12] != s[b + 12] {
+            return false;
+        }
+        return octets::same_part(s, a, s, b, 16);
+    }
+    if s[a] != s[b] {
+        return false;
+    }
+    if k == 2 {
+        if s[a + 8] != s[b + 8] {
+            return false;
+        }
+    }
+    octets::same_part(s, a, s, b, 7)
+}
+
+// Whether every record among the n slots of table k from a place on keeps its rule.
+pub fn all_ok(k: usize, s: &[u8], place: usize, n: usize, w: u64) -> bool
+    requires { ⌜ (k < 6) × (n ≤ 32) × (place + ruleAt k .size * n ≤ length (now s)) ⌝ }
+    ensures { λ r. ⌜ r ≡ T.every (T.recordOk (ruleAt k)) (recordsAt (now (s .entry)) (ruleAt k .size) place n w) ⌝ }
+{
+    let size = size_of(k);
+    let mut at = place;
+    let mut left = n;
+    let mut word = w;
+    while 0 < left {
+        if word == 0 {
+            return true;
+        }
+        if word % 2 == 1 {
+            if !record_ok(k, s, at) {
+                return false;
+            }
+        }
+        at = at + size;
+        left = left - 1;
+        word = word / 2;
+    }
+    true
+}
+
+// Whether the record at `at` has the identity of one among the n slots of table k from a place on.
+fn repeated(k: usize, s: &[u8], at: usize, place: usize, n: usize, w: u64) -> bool
+    requires { ⌜ (k < 6) × (at + ruleAt k .size ≤ length (now s)) × (place + ruleAt k .size * n ≤ length (now s)) ⌝ }
+    ensures { λ r. ⌜ r ≡ T.any (same (ruleAt k .key (part (now (s .entry)) at (ruleAt k .size)))) (map (ruleAt k .key) (recordsAt (now (s .entry)) (ruleAt k .size) place n w)) ⌝ }
+{
+    let size = size_of(k);
+    let mut next = place;
+    let mut rest = n;
+    let mut word = w;
+    while 0 < rest {
+        if word == 0 {
+            return false;
+        }
+        if word % 2 == 1 {
+            if same_identity(k, s, at, next) {
+                return true;
+            }
+        }
+        next = next + size;
+        rest = rest - 1;
+        word = word / 2;
+    }
+    false
+}
+
+// Whether no two records among the n slots of table k from a place on have one identity.
+pub fn distinct(k: usize, s: &[u8], place: usize, n: usize, w: u64) -> bool
+    requires { ⌜ (k < 6) × (n ≤ 32) × (place + ruleAt k .size * n ≤ length (now s)) ⌝ }
+    ensures { λ r. ⌜ r ≡ T.distinct (map (ruleAt k .key) (recordsAt (now (s .entry)) (ruleAt k .size) place n w)) ⌝ }
+{
+    let size = size_of(k);
+    let mut at = place;
+    let mut left = n;
+    let mut word = w;
+    while 0 < left {
+        if word == 0 {
+            return true;
+        }
+        if word % 2 == 1 {
+            if repeated(k, s, at, at + size, left - 1, word / 2) {
+                return false;
+            }
+        }
+        at = at + size;
+        left = left - 1;
+        word = word / 2;
+    }
+    true
+}
+
+// Whether the records among the n slots of table k from a place on keep the table's rule: each its own, and none is repeated.
+pub fn keeps_rule(k: usize, s: &[u8], place: usize, n: usize, w: u64) -> bool
+    requires { ⌜ (k < 6) × (n ≤ 32) × (place + ruleAt k .size * n ≤ length (now s)) ⌝ }
+    ensures { λ r. ⌜ r ≡ T.recordsOk (ruleAt k) (recordsAt (now (s .entry)) (ruleAt k .size) place n w) ⌝ }
+{
+    if all_ok(k, s, place, n, w) {
+        return distinct(k, s, place, n, w);
+    }
+    false
+}
+
+// The word of a list of n records: all n slots are in use.
+pub fn list_word(n: usize) -> u64
+    requires { ⌜ n ≤ 32 ⌝ }
+    ensures { λ r. ⌜ r ≡ 2 ^ n - 1 ⌝ }
+{
+    (1 << n) - 1
+}
+
+// Whether a controller with these supported settings may have records in table k.
+pub fn supports(k: usize, supported: u32) -> bool
+    requires { ⌜ k < 6 ⌝ }
+    ensures { λ r. ⌜ ((f : Hardware) → f .supported ≡ supported → r ≡ passes (ruleAt k .support f)) ⌝ }
+{
+    if k == 1 {
+        return supported / 128 % 2 == 1;
+    }
+    if k == 2 {
+        return supported / 512 % 2 == 1;
+    }
+    if k == 3 {
+        return supported / 512 % 2 == 1;
+    }
+    true
+}
