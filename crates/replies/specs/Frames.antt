@@ -1,0 +1,23 @@
+-- The model's frames in the pieces in which the code writes them, and the reply of a settings command.
+-- Assumes nothing.
+use Prim.Native.Nat.{ℕ, _+_}
+use mathlib.Core.Bool.{true, false}
+use mathlib.Core.List.{[], _∷_, _++_}
+use lib.Dec.{eqb}
+use Rattle.model.specs.Octets.{Octets, le16, le32, event, commandComplete}
+
+-- the head of an event: its code, the controller's index, and the length n of the parameters
+unfoldable pub eventHead : ℕ → ℕ → ℕ → Octets
+eventHead code index n = le16 code ++ (le16 index ++ le16 n)
+
+-- Command Complete up to its n octets of return parameters: the head, the command's code, the status
+unfoldable pub completeHead : ℕ → ℕ → ℕ → ℕ → Octets
+completeHead index code status n = eventHead 0x0001 index (3 + n) ++ (le16 code ++ (status ∷ []))
+
+-- "only on change for New Settings": of a controller whose Current_Settings were `old` and are `new`
+unfoldable pub changedEvent : ℕ → ℕ → ℕ → Octets
+changedEvent index old new = elim (eqb old new) [ true ↦ [] | false ↦ event 0x0006 index (le32 new) ]
+
+-- what a settings command writes when it acts: it "answers with Current_Settings", and "events follow the reply"
+unfoldable pub settingsReply : ℕ → ℕ → ℕ → ℕ → Octets
+settingsReply index code old new = commandComplete index code 0 (le32 new) ++ changedEvent index old new

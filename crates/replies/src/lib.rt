@@ -1,0 +1,159 @@
+// Replies and events, each written at a place of the reply buffer; and what a call answers.
+ghost use mathlib.Core.Path.{_≡_};
+ghost use Prim.Native.Nat.{_+_, _≤_};
+ghost use lib.ListN.{length};
+ghost use Rattle.model.specs.Octets.{le32, commandComplete, commandStatus};
+ghost use Rattle.model.specs.Octets as M;
+ghost use Rattle.octets.specs.Parts.{part, writeAt};
+ghost use Rattle.replies.specs.Frames as S;
+ghost use Rattle.replies.specs.Answers.{numberOf, countOf};
+
+// What a call answers; a count is that of the octets written.
+pub enum Answer {
+    Done(usize),
+    Started,
+    Refused(usize),
+    BadPacket,
+    SmallBuffer,
+    BadState,
+    BadArgument,
+    BadImage,
+}
+
+// The number of an answer.
+pub fn number(a: Answer) -> u64
+    ensures { λ r. ⌜ r ≡ numberOf a ⌝ }
+{
+    match a {
+        Answer::Done(_) => 0,
+        Answer::Started => 1,
+        Answer::Refused(_) => 2,
+        Answer::BadPacket => 3,
+        Answer::SmallBuffer => 4,
+        Answer::BadState => 5,
+        Answer::BadArgument => 6,
+        Answer::BadImage => 7,
+    }
+}
+
+// The count of octets that an answer says were written.
+pub fn count(a: Answer) -> usize
+    ensures { λ r. ⌜ r ≡ countOf a ⌝ }
+{
+    match a {
+        Answer::Done(n) => n,
+        Answer::Started => 0,
+        Answer::Refused(n) => n,
+        Answer::BadPacket => 0,
+        Answer::SmallBuffer => 0,
+        Answer::BadState => 0,
+        Answer::BadArgument => 0,
+        Answer::BadImage => 0,
+    }
+}
+
+// The head of an event with n octets of parameters, 6 octets.
+fn event_head(out: &mut [u8], at: usize, code: u64, index: u64, n: u64)
+    requires { ⌜ at + 6 ≤ length (now out) ⌝ }
+    ensures { λ _. ⌜ now (out .exit) ≡ writeAt (now (out .entry)) at (S.eventHead code index n) ⌝ }
+{
+    octets::put16(out, at, code);
+    octets::put16(out, at + 2, index);
+    octets::put16(out, at + 4, n);
+}
+
+// Command Complete up to its n octets of return parameters, 9 octets.
+fn complete_head(out: &mut [u8], at: usize, index: u64, code: u64, status: u8, n: usize)
+    requires { ⌜ at + 9 + n ≤ length (now out) ⌝ }
+    ensures { λ _. ⌜ now (out .exit) ≡ writeAt (now (out .entry)) at (S.completeHead index code status n) ⌝ }
+{
+    event_head(out, at, 0x0001, index, (3 + n) as u64);
+    octets::put16(out, at + 6, code);
+    octets::put8(out, at + 8, status);
+}
+
+// Command Status, 9 octets.
+pub fn command_status(out: &mut [u8], at: usize, index: u64, code: u64, status: u8)
+    requires { ⌜ at + 9 ≤ length (now out) ⌝ }
+    ensures { λ _. ⌜ now (out .exit) ≡ writeAt (now (out .entry)) at (commandStatus index code status) ⌝ }
+{
+    event_head(out, at, 0x0002, index, 3);
+    octets::put16(out, at + 6, code);
+    octets::put8(out, at + 8, status);
+}
+
+// Command Complete, 9 octets and the return parameters.
+pub fn command_complete(out: &mut [u8], at: usize, index: u64, code: u64, status: u8, params: &[u8])
+    requires { ⌜ at + 9 + length (now params) ≤ length (now out) ⌝ }
+    ensures { λ _. ⌜ now (out .exit) ≡ writeAt (now (out .entry)) at (commandComplete index code status (now (params .entry))) ⌝ }
+{
+    complete_head(out, at, index, code, status, params.len());
+    octets::copy_into(out, at + 9, params);
+}
+
+// Command Complete whose return parameters are the n octets of src from `from` on.
+pub fn command_complete_part(
+    out: &mut [u8],
+    at: usize,
+    index: u64,
+    code: u64,
+    status: u8,
+    src: &[u8],
+    from: usize,
+    n: usize,
+)
+    requires { ⌜ (at + 9 + n ≤ length (now out)) × (from + n ≤ length (now src)) ⌝ }
+    ensures { λ _. ⌜ now (out .exit) ≡ writeAt (now (out .entry)) at (commandComplete index code status (part (now (src .entry)) from n)) ⌝ }
+{
+    complete_head(out, at, index, code, status, n);
+    octets::copy_part(out, at + 9, src, from, n);
+}
+
+// An event, 6 octets and the parameters.
+pub fn event(out: &mut [u8], at: usize, code: u64, index: u64, params: &[u8])
+    requires { ⌜ at + 6 + length (now params) ≤ length (now out) ⌝ }
+    ensures { λ _. ⌜ now (out .exit) ≡ writeAt (now (out .entry)) at (M.event code index (now (params .entry))) ⌝ }
+{
+    event_head(out, at, code, index, params.len() as u64);
+    octets::copy_into(out, at + 6, params);
+}
+
+// An event whose parameters are the n octets of src from `from` on.
+pub fn event_part(
+    out: &mut [u8],
+    at: usize,
+    code: u64,
+    index: u64,
+    src: &[u8],
+    from: usize,
+    n: usize,
+)
+    requires { ⌜ (at + 6 + n ≤ length (now out)) × (from + n ≤ length (now src)) ⌝ }
+    ensures { λ _. ⌜ now (out .exit) ≡ writeAt (now (out .entry)) at (M.event code index (part (now (src .entry)) from n)) ⌝ }
+{
+    event_head(out, at, code, index, n as u64);
+    octets::copy_part(out, at + 6, src, from, n);
+}
+
+// New Settings, 10 octets.
+pub fn new_settings(out: &mut [u8], at: usize, index: u64, word: u64)
+    requires { ⌜ at + 10 ≤ length (now out) ⌝ }
+    ensures { λ _. ⌜ now (out .exit) ≡ writeAt (now (out .entry)) at (M.event 0x0006 index (le32 word)) ⌝ }
+{
+    event_head(out, at, 0x0006, index, 4);
+    octets::put32(out, at + 6, word);
+}
+
+// What a settings command answers when it acts: Command Complete with the settings, then New Settings if they changed. Returns the count of octets.
+pub fn settings_reply(out: &mut [u8], index: u64, code: u64, old: u64, new: u64) -> usize
+    requires { ⌜ 23 ≤ length (now out) ⌝ }
+    ensures { λ r. ⌜ (r ≡ length (S.settingsReply index code old new)) × (now (out .exit) ≡ writeAt (now (out .entry)) 0 (S.settingsReply index code old new)) ⌝ }
+{
+    complete_head(out, 0, index, code, 0, 4);
+    octets::put32(out, 9, new);
+    if old == new {
+        return 13;
+    }
+    new_settings(out, 13, index, new);
+    23
+}

@@ -1,0 +1,172 @@
+-- How the decisions and effects of this crate stand to the model's rules: what a caller needs to say the model's words of a decision taken by value.
+-- Assumes nothing.
+use mathlib.Core.Path.{_≡_, refl, sym, _∙_}
+use Prim.Native.Nat.{ℕ}
+use native.Mathlib.Omega.{arith}
+use mathlib.Core.Bool.{Bool, true, false, _&&_, not}
+use mathlib.Core.List.{List}
+use mathlib.Core.Option.{Option, none, some}
+use lib.ListN.{length}
+use lib.Dec.{eqb}
+use borrow.Author.Tests.{eq-eqb}
+use Rattle.model.specs.Octets.{Octets}
+use Rattle.model.specs.declared.RadioSettings.{RadioSettings}
+use Rattle.model.specs.State.{Host, Controller, noTimer, settingsOf, withHost, withTimer, withBondable, withPowered, withConnectable, withLowEnergy, withStaticAddress}
+use Rattle.model.specs.Reasons.{Reason, Check, firstOf, nothing, passes}
+use Rattle.model.specs.Rules.{RadioRule, radio, on, setPowered, setDiscoverable, setConnectable, setLowEnergy, setStaticAddress}
+use Rattle.model.specs.Hub.{startsBy, countdown, tick}
+use Rattle.model.specs.WellFormed.{timerOk}
+use Rattle.rules.specs.Decisions.{waitOrAct, afterBusyOf, beforeBusyOf, decision, isWait, Fails, settingsOk}
+use Rattle.rules.specs.Effects.{withSettings, controllerOf, settingsEffect, OnlySettings, settingsTimer, settingsBondable}
+use Rattle.rules.specs.declared.Decision.{Decision}
+use Rattle.rules.specs.declared.Decision.the-variants.{Refuse, Reject, Wait, Act}
+
+clash : {A : Type 0} → _≡_ {A = ℕ} 0 1 → A
+clash e = absurd (omega arith)
+
+-- DECISIONS -----------------------------------------------------------------------------------------------------------------------------------
+
+-- one lemma for each answer, over the first reason before Busy, the first after it, and whether the command waits
+wait-test : (a b : Option Reason) (w : Bool) → (nothing a && (nothing b && w)) ≡ isWait (beforeBusyOf (afterBusyOf w b) a)
+unfolding nothing isWait beforeBusyOf afterBusyOf waitOrAct
+wait-test (some x) b w = refl
+wait-test none (some y) w = refl
+wait-test none none true = refl
+wait-test none none false = refl
+
+-- what "would now be started" asks beside the length is that the decision is to wait
+pub wait-is : (r : RadioRule) (x : RadioSettings) (ps : Octets) → (passes (r .beforeBusy x ps) && (passes (r .afterBusy x ps) && r .waits x ps)) ≡ isWait (decision r x ps)
+unfolding passes decision
+wait-is r x ps = wait-test (firstOf (r .beforeBusy x ps)) (firstOf (r .afterBusy x ps)) (r .waits x ps)
+
+pub starts-is : (r : RadioRule) (x : RadioSettings) (ps : Octets) → length ps ≡ r .size → startsBy x ps (some (radio r)) ≡ isWait (decision r x ps)
+unfolding startsBy
+starts-is r x ps l = rw (eq-eqb (length ps) (r .size) l) (wait-is r x ps)
+
+waiting : (d : Decision) → isWait d ≡ true → d ≡ Wait
+unfolding isWait
+waiting (Refuse s) e = clash (cc)
+waiting (Reject s) e = clash (cc)
+waiting Wait e = refl
+waiting Act e = clash (cc)
+
+pub waits-then : (r : RadioRule) (x : RadioSettings) (ps : Octets) → decision r x ps ≡ Wait → (passes (r .beforeBusy x ps) && (passes (r .afterBusy x ps) && r .waits x ps)) ≡ true
+unfolding isWait
+waits-then r x ps e = wait-is r x ps ∙ rw e
+
+pub then-waits : (r : RadioRule) (x : RadioSettings) (ps : Octets) → (passes (r .beforeBusy x ps) && (passes (r .afterBusy x ps) && r .waits x ps)) ≡ true → decision r x ps ≡ Wait
+then-waits r x ps e = waiting (decision r x ps) (sym (wait-is r x ps) ∙ e)
+
+-- a decision tells which checks fail: what the model's verdict goes by
+refused : (cs ds : List Check) (w : Bool) (s : ℕ) (a b : Option Reason) → firstOf cs ≡ a → firstOf ds ≡ b → beforeBusyOf (afterBusyOf w b) a ≡ Refuse s → Fails cs s
+unfolding beforeBusyOf afterBusyOf waitOrAct
+refused cs ds w s (some x) b ea eb e = record { reason = x; first = ea; told = cc }
+refused cs ds w s none (some y) ea eb e = clash (cc)
+refused cs ds true s none none ea eb e = clash (cc)
+refused cs ds false s none none ea eb e = clash (cc)
+
+pub refuse-fails : (r : RadioRule) (x : RadioSettings) (ps : Octets) (s : ℕ) → decision r x ps ≡ Refuse s → Fails (r .beforeBusy x ps) s
+unfolding decision
+refuse-fails r x ps s e = refused (r .beforeBusy x ps) (r .afterBusy x ps) (r .waits x ps) s (firstOf (r .beforeBusy x ps)) (firstOf (r .afterBusy x ps)) refl refl e
+
+rejected : (cs ds : List Check) (w : Bool) (s : ℕ) (a b : Option Reason) → firstOf cs ≡ a → firstOf ds ≡ b → beforeBusyOf (afterBusyOf w b) a ≡ Reject s
+    → (firstOf cs ≡ none) × Fails ds s
+unfolding beforeBusyOf afterBusyOf waitOrAct
+rejected cs ds w s (some x) b ea eb e = clash (cc)
+rejected cs ds w s none (some y) ea eb e = (ea, record { reason = y; first = eb; told = cc })
+rejected cs ds true s none none ea eb e = clash (cc)
+rejected cs ds false s none none ea eb e = clash (cc)
+
+pub reject-fails : (r : RadioRule) (x : RadioSettings) (ps : Octets) (s : ℕ) → decision r x ps ≡ Reject s → (firstOf (r .beforeBusy x ps) ≡ none) × Fails (r .afterBusy x ps) s
+unfolding decision
+reject-fails r x ps s e = rejected (r .beforeBusy x ps) (r .afterBusy x ps) (r .waits x ps) s (firstOf (r .beforeBusy x ps)) (firstOf (r .afterBusy x ps)) refl refl e
+
+passed : (cs ds : List Check) (w v : Bool) (a b : Option Reason) → firstOf cs ≡ a → firstOf ds ≡ b → beforeBusyOf (afterBusyOf w b) a ≡ waitOrAct v
+    → (firstOf cs ≡ none) × (firstOf ds ≡ none) × (w ≡ v)
+unfolding beforeBusyOf afterBusyOf waitOrAct
+passed cs ds w true (some x) b ea eb e = clash (cc)
+passed cs ds w false (some x) b ea eb e = clash (cc)
+passed cs ds w true none (some y) ea eb e = clash (cc)
+passed cs ds w false none (some y) ea eb e = clash (cc)
+passed cs ds true true none none ea eb e = (ea, eb, refl)
+passed cs ds false false none none ea eb e = (ea, eb, refl)
+passed cs ds true false none none ea eb e = clash (cc)
+passed cs ds false true none none ea eb e = clash (cc)
+
+pub wait-passes : (r : RadioRule) (x : RadioSettings) (ps : Octets) → decision r x ps ≡ Wait → (firstOf (r .beforeBusy x ps) ≡ none) × (firstOf (r .afterBusy x ps) ≡ none) × (r .waits x ps ≡ true)
+unfolding decision waitOrAct
+wait-passes r x ps e = passed (r .beforeBusy x ps) (r .afterBusy x ps) (r .waits x ps) true (firstOf (r .beforeBusy x ps)) (firstOf (r .afterBusy x ps)) refl refl e
+
+pub act-passes : (r : RadioRule) (x : RadioSettings) (ps : Octets) → decision r x ps ≡ Act → (firstOf (r .beforeBusy x ps) ≡ none) × (firstOf (r .afterBusy x ps) ≡ none) × (r .waits x ps ≡ false)
+unfolding decision waitOrAct
+act-passes r x ps e = passed (r .beforeBusy x ps) (r .afterBusy x ps) (r .waits x ps) false (firstOf (r .beforeBusy x ps)) (firstOf (r .afterBusy x ps)) refl refl e
+
+-- EFFECTS -------------------------------------------------------------------------------------------------------------------------------------
+
+-- by the two cases of whether the timer ends
+abbrev either : Bool → Host → Host → Host
+either b x y = elim b [ true ↦ x | false ↦ y ]
+
+abbrev made : RadioSettings → Host → Controller
+made r h = record { radio = r; host = h }
+
+-- the host part of a controller with these settings, and no name and no tables
+abbrev bare : Controller → Host
+bare c = controllerOf (settingsOf c) .host
+
+pub powered-only : (c : Controller) (ps : Octets) → OnlySettings setPowered c ps
+unfolding settingsEffect controllerOf settingsOf withSettings setPowered withPowered withTimer
+powered-only c ps = record { settings = settings (not (on ps) && not (eqb (c .host .settings .timer .seconds) 0)); whole = whole (not (on ps) && not (eqb (c .host .settings .timer .seconds) 0)) }
+  where
+    r : RadioSettings
+    r = withPowered (c .radio) (on ps)
+
+    settings : (b : Bool) → settingsOf (made r (either b (withTimer (c .host) noTimer) (c .host))) ≡ settingsOf (made r (either b (withTimer (bare c) noTimer) (bare c)))
+    settings true = refl
+    settings false = refl
+
+    whole : (b : Bool) → made r (either b (withTimer (c .host) noTimer) (c .host)) ≡ withSettings c (settingsOf (made r (either b (withTimer (bare c) noTimer) (bare c))))
+    whole true = refl
+    whole false = refl
+
+pub discoverable-only : (c : Controller) (ps : Octets) → OnlySettings setDiscoverable c ps
+unfolding settingsEffect controllerOf settingsOf withSettings setDiscoverable withTimer
+discoverable-only c ps = record { settings = refl; whole = refl }
+
+pub connectable-only : (c : Controller) (ps : Octets) → OnlySettings setConnectable c ps
+unfolding settingsEffect controllerOf settingsOf withSettings setConnectable withConnectable withTimer
+connectable-only c ps = record { settings = settings (on ps); whole = whole (on ps) }
+  where
+    r : RadioSettings
+    r = withConnectable (c .radio) (on ps)
+
+    settings : (b : Bool) → settingsOf (made r (either b (c .host) (withTimer (c .host) noTimer))) ≡ settingsOf (made r (either b (bare c) (withTimer (bare c) noTimer)))
+    settings true = refl
+    settings false = refl
+
+    whole : (b : Bool) → made r (either b (c .host) (withTimer (c .host) noTimer)) ≡ withSettings c (settingsOf (made r (either b (bare c) (withTimer (bare c) noTimer))))
+    whole true = refl
+    whole false = refl
+
+pub low-energy-only : (c : Controller) (ps : Octets) → OnlySettings setLowEnergy c ps
+unfolding settingsEffect controllerOf settingsOf withSettings setLowEnergy withLowEnergy
+low-energy-only c ps = record { settings = refl; whole = refl }
+
+pub static-address-only : (c : Controller) (ps : Octets) → OnlySettings setStaticAddress c ps
+unfolding settingsEffect controllerOf settingsOf withSettings setStaticAddress withStaticAddress
+static-address-only c ps = record { settings = refl; whole = refl }
+
+-- Set Bondable, and the clock
+pub bondable-only : (c : Controller) (b : Bool) → withHost c (withBondable (c .host) b) ≡ withSettings c (settingsBondable (settingsOf c) b)
+unfolding withHost withBondable withSettings settingsBondable settingsOf
+bondable-only c b = refl
+
+pub tick-only : (step : ℕ) (c : Controller) → tick step c ≡ withSettings c (settingsTimer (settingsOf c) (countdown step (c .host .settings .timer)))
+unfolding tick withHost withTimer withSettings settingsTimer settingsOf
+tick-only step c = refl
+
+-- WELL FORMED ---------------------------------------------------------------------------------------------------------------------------------
+
+pub timer-ok-is : (c : Controller) → timerOk c ≡ settingsOk (settingsOf c)
+unfolding timerOk settingsOk settingsOf
+timer-ok-is c = refl

@@ -1,0 +1,54 @@
+-- What a settings command comes to on the radio settings, Busy aside.
+-- Assumes nothing.
+use mathlib.Core.Path.{_≡_}
+use Prim.Native.Nat.{ℕ}
+use mathlib.Core.Bool.{Bool, true, false}
+use mathlib.Core.List.{List}
+use mathlib.Core.Option.{Option, none, some}
+use lib.Dec.{eqb}
+use Rattle.model.specs.Octets.{Octets}
+use Rattle.model.specs.declared.RadioSettings.{RadioSettings}
+use Rattle.model.specs.declared.Settings.{Settings}
+use Rattle.model.specs.Reasons.{Reason, Check, statusOf, firstOf}
+use Rattle.model.specs.Rules.{RadioRule}
+use Rattle.model.specs.WellFormed.{addressed, settingsFit}
+use Rattle.rules.specs.declared.Decision.{Decision}
+use Rattle.rules.specs.declared.Decision.the-variants.{Refuse, Reject, Wait, Act}
+
+-- past all checks: it waits for the radio, or acts at once
+unfoldable pub waitOrAct : Bool → Decision
+waitOrAct true = Wait
+waitOrAct false = Act
+
+-- past the checks before Busy: the first check after Busy that fails
+unfoldable pub afterBusyOf : Bool → Option Reason → Decision
+afterBusyOf w (some x) = Reject (statusOf x)
+afterBusyOf w none = waitOrAct w
+
+-- the first check before Busy that fails, else what follows
+unfoldable pub beforeBusyOf : Decision → Option Reason → Decision
+beforeBusyOf d (some x) = Refuse (statusOf x)
+beforeBusyOf d none = d
+
+-- "first that applies: values, Invalid Parameters; Not Supported; Not Powered; Busy; Rejected": a command with Refuse is refused even where
+-- another is under way; one with Reject, Wait or Act is Busy there
+unfoldable pub decision : RadioRule → RadioSettings → Octets → Decision
+decision r x ps = beforeBusyOf (afterBusyOf (r .waits x ps) (firstOf (r .afterBusy x ps))) (firstOf (r .beforeBusy x ps))
+
+-- the first of the checks that fails, and its status
+pub record Fails (cs : List Check) (status : ℕ) : Type 0 where
+  pub reason : Reason
+  pub first : firstOf cs ≡ some reason
+  pub told : statusOf reason ≡ status
+
+-- a decision that waits
+unfoldable pub isWait : Decision → Bool
+isWait (Refuse s) = false
+isWait (Reject s) = false
+isWait Wait = true
+isWait Act = false
+
+-- "discoverable only if connectable; timer only if powered and discoverable; powered only with an address", of the settings alone
+unfoldable pub settingsOk : Settings → Bool
+settingsOk m =
+    settingsFit (m .host .timer .discoverable) (m .radio .connectable) (eqb (m .host .timer .seconds) 0) (m .radio .powered) (addressed (m .radio))

@@ -1,0 +1,466 @@
+// What the commands decide and change, by value: no function here touches the lent state or a reply.
+ghost use mathlib.Core.Path.{_≡_};
+ghost use mathlib.Core.Bool.{_&&_, _||_};
+ghost use Prim.Native.Nat.{_≤_};
+ghost use lib.ListN.{length};
+ghost use Rattle.model.specs.State as T;
+ghost use Rattle.model.specs.Hub as C;
+ghost use Rattle.model.specs.Image.{radioOk};
+ghost use Rattle.model.specs.WellFormed as W;
+ghost use Rattle.model.specs.Rules.{setPowered, setDiscoverable, setConnectable, setLowEnergy, setStaticAddress};
+ghost use Rattle.rules.specs.Decisions.{decision, settingsOk};
+ghost use Rattle.rules.specs.Effects.{settingsEffect, settingsTimer, settingsBondable};
+use model::Hardware;
+use model::HostSettings;
+use model::RadioSettings;
+use model::Settings;
+use model::Timer;
+
+// What a settings command comes to, Busy aside: refused before Busy, or after it, with a status; or it waits for the radio, or acts at once.
+pub enum Decision {
+    Refuse(u8),
+    Reject(u8),
+    Wait,
+    Act,
+}
+
+// Tests
+
+// Whether both hold.
+fn both(a: bool, b: bool) -> bool
+    ensures { λ r. ⌜ r ≡ (a && b) ⌝ }
+{
+    if a {
+        return b;
+    }
+    false
+}
+
+// Whether one of the two holds, or both.
+fn either(a: bool, b: bool) -> bool
+    ensures { λ r. ⌜ r ≡ (a || b) ⌝ }
+{
+    if a {
+        return true;
+    }
+    b
+}
+
+// Whether the hardware has BR/EDR.
+pub fn bredr_supported(f: Hardware) -> bool
+    ensures { λ r. ⌜ r ≡ T.bredrSupported f ⌝ }
+{
+    f.supported / 128 % 2 == 1
+}
+
+// Whether the hardware has Low Energy.
+pub fn le_supported(f: Hardware) -> bool
+    ensures { λ r. ⌜ r ≡ T.leSupported f ⌝ }
+{
+    f.supported / 512 % 2 == 1
+}
+
+// Whether an address is zero, or its sixth octet at least 0xC0.
+pub fn static_address_ok(a: &[u8]) -> bool
+    requires { ⌜ 6 ≤ length (now a) ⌝ }
+    ensures { λ r. ⌜ r ≡ T.staticAddressOk (now (a .entry)) ⌝ }
+{
+    if octets::all_zero(a) {
+        return true;
+    }
+    0xC0 <= a[5]
+}
+
+// Whether there is a public or a static address.
+pub fn addressed(r: RadioSettings) -> bool
+    ensures { λ q. ⌜ q ≡ W.addressed r ⌝ }
+{
+    let f = r.hardware;
+    let public = f.publicAddress;
+    if octets::all_zero(&public) {
+        let own = r.staticAddress;
+        if octets::all_zero(&own) {
+            return false;
+        }
+        return true;
+    }
+    true
+}
+
+// Whether the static address stands in for the public one: bit 15 of Current_Settings.
+fn static_in_use(r: RadioSettings) -> bool
+    ensures { λ q. ⌜ q ≡ T.staticInUse r ⌝ }
+{
+    let own = r.staticAddress;
+    if octets::all_zero(&own) {
+        return false;
+    }
+    let f = r.hardware;
+    let public = f.publicAddress;
+    octets::all_zero(&public)
+}
+
+// Current_Settings
+
+// The value of a bit that is on or off.
+fn flag_of(b: bool, n: u64) -> u64
+    ensures { λ r. ⌜ (r ≡ T.flag b n) × (r ≤ n) ⌝ }
+{
+    if b { n } else { 0 }
+}
+
+// Current_Settings of a controller with these settings.
+pub fn current_settings(m: Settings) -> u64
+    ensures { λ r. ⌜ r ≡ T.currentSettings m ⌝ }
+{
+    let r = m.radio;
+    let f = r.hardware;
+    let h = m.host;
+    let t = h.timer;
+    let powered = flag_of(r.powered, 1);
+    let connectable = flag_of(r.connectable, 2);
+    let discoverable = flag_of(t.discoverable, 8);
+    let bondable = flag_of(h.bondable, 16);
+    let bredr = flag_of(bredr_supported(f), 128);
+    let low_energy = flag_of(r.lowEnergy, 512);
+    let own = flag_of(static_in_use(r), 32768);
+    powered + connectable + discoverable + bondable + bredr + low_energy + own
+}
+
+// Decisions
+
+// 0x0005 Set Powered.
+pub fn decide_powered(r: RadioSettings, ps: &[u8]) -> Decision
+    requires { ⌜ length (now ps) ≡ 1 ⌝ }
+    ensures { λ d. ⌜ d ≡ decision setPowered r (now (ps .entry)) ⌝ }
+{
+    let v = ps[0];
+    if 1 < v {
+        return Decision::Refuse(0x0D);
+    }
+    if v == 1 {
+        if addressed(r) {
+            if r.powered {
+                return Decision::Act;
+            }
+            return Decision::Wait;
+        }
+        return Decision::Reject(0x0B);
+    }
+    if r.powered {
+        return Decision::Wait;
+    }
+    Decision::Act
+}
+
+// 0x0006 Set Discoverable.
+pub fn decide_discoverable(r: RadioSettings, ps: &[u8]) -> Decision
+    requires { ⌜ length (now ps) ≡ 3 ⌝ }
+    ensures { λ d. ⌜ d ≡ decision setDiscoverable r (now (ps .entry)) ⌝ }
+{
+    let v = ps[0];
+    let seconds = octets::u16_at(ps, 1);
+    if 2 < v {
+        return Decision::Refuse(0x0D);
+    }
+    if both(v == 0, seconds != 0) {
+        return Decision::Refuse(0x0D);
+    }
+    if both(v == 2, seconds == 0) {
+        return Decision::Refuse(0x0D);
+    }
+    if bredr_supported(r.hardware) {
+        if both(!r.powered, seconds != 0) {
+            return Decision::Refuse(0x0F);
+        }
+        if both(v != 0, !r.connectable) {
+            return Decision::Reject(0x0B);
+        }
+        if r.powered {
+            return Decision::Wait;
+        }
+        return Decision::Act;
+    }
+    Decision::Refuse(0x0C)
+}
+
+// 0x0007 Set Connectable.
+pub fn decide_connectable(r: RadioSettings, ps: &[u8]) -> Decision
+    requires { ⌜ length (now ps) ≡ 1 ⌝ }
+    ensures { λ d. ⌜ d ≡ decision setConnectable r (now (ps .entry)) ⌝ }
+{
+    if 1 < ps[0] {
+        return Decision::Refuse(0x0D);
+    }
+    if r.powered {
+        return Decision::Wait;
+    }
+    Decision::Act
+}
+
+// 0x000D Set Low Energy.
+pub fn decide_low_energy(r: RadioSettings, ps: &[u8]) -> Decision
+    requires { ⌜ length (now ps) ≡ 1 ⌝ }
+    ensures { λ d. ⌜ d ≡ decision setLowEnergy r (now (ps .entry)) ⌝ }
+{
+    let v = ps[0];
+    if 1 < v {
+        return Decision::Refuse(0x0D);
+    }
+    let f = r.hardware;
+    if le_supported(f) {
+        if both(v != 1, !bredr_supported(f)) {
+            return Decision::Reject(0x0B);
+        }
+        if r.powered {
+            return Decision::Wait;
+        }
+        return Decision::Act;
+    }
+    Decision::Refuse(0x0C)
+}
+
+// 0x002B Set Static Address.
+pub fn decide_static_address(r: RadioSettings, ps: &[u8]) -> Decision
+    requires { ⌜ length (now ps) ≡ 6 ⌝ }
+    ensures { λ d. ⌜ d ≡ decision setStaticAddress r (now (ps .entry)) ⌝ }
+{
+    if static_address_ok(ps) {
+        if le_supported(r.hardware) {
+            if r.powered {
+                return Decision::Reject(0x0B);
+            }
+            return Decision::Act;
+        }
+        return Decision::Refuse(0x0C);
+    }
+    Decision::Refuse(0x0D)
+}
+
+// Effects
+
+// Not discoverable, and no timer.
+fn no_timer() -> Timer
+    ensures { λ r. ⌜ r ≡ T.noTimer ⌝ }
+{
+    Timer {
+        discoverable: false,
+        seconds: 0,
+    }
+}
+
+// The settings with another timer.
+pub fn with_timer(m: Settings, t: Timer) -> Settings
+    ensures { λ r. ⌜ r ≡ settingsTimer m t ⌝ }
+{
+    let r = m.radio;
+    let h = m.host;
+    Settings {
+        radio: r,
+        host: HostSettings {
+            timer: t,
+            bondable: h.bondable,
+        },
+    }
+}
+
+// The settings with bondable on or off.
+pub fn with_bondable(m: Settings, b: bool) -> Settings
+    ensures { λ r. ⌜ r ≡ settingsBondable m b ⌝ }
+{
+    let r = m.radio;
+    let h = m.host;
+    let t = h.timer;
+    Settings {
+        radio: r,
+        host: HostSettings {
+            timer: t,
+            bondable: b,
+        },
+    }
+}
+
+// What Set Powered makes of the settings: off, discoverable ends if its timer runs.
+pub fn effect_powered(m: Settings, ps: &[u8]) -> Settings
+    requires { ⌜ length (now ps) ≡ 1 ⌝ }
+    ensures { λ d. ⌜ d ≡ settingsEffect setPowered m (now (ps .entry)) ⌝ }
+{
+    let on = ps[0] == 1;
+    let r = m.radio;
+    let f = r.hardware;
+    let own = r.staticAddress;
+    let h = m.host;
+    let t = h.timer;
+    let radio = RadioSettings {
+        hardware: f,
+        powered: on,
+        connectable: r.connectable,
+        lowEnergy: r.lowEnergy,
+        staticAddress: own,
+    };
+    let d = Settings { radio, host: h };
+    if both(!on, t.seconds != 0) {
+        return with_timer(d, no_timer());
+    }
+    d
+}
+
+// What Set Discoverable makes of the settings: 1 and 2 alike; timeout 0 leaves no timer.
+pub fn effect_discoverable(m: Settings, ps: &[u8]) -> Settings
+    requires { ⌜ length (now ps) ≡ 3 ⌝ }
+    ensures { λ d. ⌜ d ≡ settingsEffect setDiscoverable m (now (ps .entry)) ⌝ }
+{
+    let t = Timer {
+        discoverable: ps[0] != 0,
+        seconds: octets::u16_at(ps, 1) as u16,
+    };
+    with_timer(m, t)
+}
+
+// What Set Connectable makes of the settings: off also ends discoverable and its timer.
+pub fn effect_connectable(m: Settings, ps: &[u8]) -> Settings
+    requires { ⌜ length (now ps) ≡ 1 ⌝ }
+    ensures { λ d. ⌜ d ≡ settingsEffect setConnectable m (now (ps .entry)) ⌝ }
+{
+    let on = ps[0] == 1;
+    let r = m.radio;
+    let f = r.hardware;
+    let own = r.staticAddress;
+    let h = m.host;
+    let radio = RadioSettings {
+        hardware: f,
+        powered: r.powered,
+        connectable: on,
+        lowEnergy: r.lowEnergy,
+        staticAddress: own,
+    };
+    let d = Settings { radio, host: h };
+    if on {
+        return d;
+    }
+    with_timer(d, no_timer())
+}
+
+// What Set Low Energy makes of the settings.
+pub fn effect_low_energy(m: Settings, ps: &[u8]) -> Settings
+    requires { ⌜ length (now ps) ≡ 1 ⌝ }
+    ensures { λ d. ⌜ d ≡ settingsEffect setLowEnergy m (now (ps .entry)) ⌝ }
+{
+    let on = ps[0] == 1;
+    let r = m.radio;
+    let f = r.hardware;
+    let own = r.staticAddress;
+    let h = m.host;
+    let radio = RadioSettings {
+        hardware: f,
+        powered: r.powered,
+        connectable: r.connectable,
+        lowEnergy: on,
+        staticAddress: own,
+    };
+    Settings { radio, host: h }
+}
+
+// What Set Static Address makes of the settings.
+pub fn effect_static_address(m: Settings, ps: &[u8]) -> Settings
+    requires { ⌜ length (now ps) ≡ 6 ⌝ }
+    ensures { λ d. ⌜ d ≡ settingsEffect setStaticAddress m (now (ps .entry)) ⌝ }
+{
+    let own = octets::six(ps, 0);
+    let r = m.radio;
+    let f = r.hardware;
+    let h = m.host;
+    let radio = RadioSettings {
+        hardware: f,
+        powered: r.powered,
+        connectable: r.connectable,
+        lowEnergy: r.lowEnergy,
+        staticAddress: own,
+    };
+    Settings { radio, host: h }
+}
+
+// The clock
+
+// The step from the last reading to a new one, of a clock of 32 bits that wraps.
+pub fn clock_step(last: u32, reading: u32) -> u32
+    ensures { λ r. ⌜ r ≡ C.stepOf last reading ⌝ }
+{
+    std::num::wrapping_sub_u32(reading, last)
+}
+
+// Whether a timer runs and ends within the step.
+pub fn ends(t: Timer, step: u32) -> bool
+    ensures { λ r. ⌜ r ≡ C.ends step t ⌝ }
+{
+    both(t.seconds != 0, t.seconds as u32 <= step)
+}
+
+// The timer after the step.
+pub fn countdown(t: Timer, step: u32) -> Timer
+    ensures { λ r. ⌜ r ≡ C.countdown step t ⌝ }
+{
+    if ends(t, step) {
+        return no_timer();
+    }
+    if t.seconds == 0 {
+        return t;
+    }
+    Timer {
+        discoverable: t.discoverable,
+        seconds: (t.seconds as u32 - step) as u16,
+    }
+}
+
+// What an image and a well-formed state keep
+
+// What plug and an image may give.
+pub fn hardware_ok(f: Hardware) -> bool
+    ensures { λ r. ⌜ r ≡ T.hardwareOk f ⌝ }
+{
+    if f.supported < 65536 {
+        if bredr_supported(f) {
+            let public = f.publicAddress;
+            if octets::all_zero(&public) {
+                return false;
+            }
+            return true;
+        }
+        return le_supported(f);
+    }
+    false
+}
+
+// The plug rules, Low Energy on where BR/EDR is unsupported, Low Energy or a static address only with LE support, and the static address rule.
+pub fn radio_ok(r: RadioSettings) -> bool
+    ensures { λ q. ⌜ q ≡ radioOk r ⌝ }
+{
+    let f = r.hardware;
+    let own = r.staticAddress;
+    if hardware_ok(f) {
+        if either(bredr_supported(f), r.lowEnergy) {
+            if either(le_supported(f), both(!r.lowEnergy, octets::all_zero(&own))) {
+                return static_address_ok(&own);
+            }
+            return false;
+        }
+        return false;
+    }
+    false
+}
+
+// Discoverable only if connectable; a timer only if powered and discoverable; powered only with an address.
+pub fn settings_fit(m: Settings) -> bool
+    ensures { λ q. ⌜ q ≡ settingsOk m ⌝ }
+{
+    let r = m.radio;
+    let h = m.host;
+    let t = h.timer;
+    if either(!t.discoverable, r.connectable) {
+        if either(t.seconds == 0, both(r.powered, t.discoverable)) {
+            return either(!r.powered, addressed(r));
+        }
+        return false;
+    }
+    false
+}

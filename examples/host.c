@@ -1,0 +1,188 @@
+/*
+ * A small host that plays a shift: it starts from an image or fresh, plugs two controllers, powers them with a slow radio while two clients
+ * interleave, loads keys, lets the clock run, saves by write-then-rename and loads again. Every call is printed in words with its octets.
+ *
+ *     host [IMAGE]      IMAGE is read if it is there, and written at the end
+ */
+#include <errno.h>
+#include <stdio.h>
+#include <stdlib.h>
+#include <string.h>
+
+#include "hub.h"
+
+#ifdef HOST_LOG
+#include "call_log.h"
+#else
+#define log_packet(packet, length) ((void)(packet), (void)(length))
+#define log_written(reply, count) ((void)(reply), (void)(count))
+#endif
+
+static uint8_t state[HUB_STATE_LEN];
+static uint8_t reply[HUB_IMAGE_MAX];
+
+static const char *answer_name(unsigned answer)
+{
+    static const char *const names[] = { "done", "started", "refused", "bad packet", "small buffer", "bad state", "bad argument", "bad image" };
+    return answer < sizeof names / sizeof names[0] ? names[answer] : "?";
+}
+
+static void print_octets(const char *what, const uint8_t *octets, size_t count)
+{
+    printf("    %s", what);
+    for (size_t i = 0; i < count && i < 32; i++)
+        printf(" %02X", octets[i]);
+    printf(count > 32 ? " .. (%zu octets)\n" : "\n", count);
+}
+
+/* Says what came of a call, and gives its answer back. */
+static unsigned told(const char *what, uint64_t result)
+{
+    printf("%s: %s\n", what, answer_name(hub_answer(result)));
+    if (hub_count(result) > 0) {
+        print_octets("wrote", reply, hub_count(result));
+        log_written(reply, hub_count(result));
+    }
+    return hub_answer(result);
+}
+
+/* Sends a command packet: code, index, parameters. */
+static unsigned send(const char *what, uint16_t code, uint16_t index, const uint8_t *params, size_t length)
+{
+    uint8_t packet[2048];
+    packet[0] = (uint8_t)code;
+    packet[1] = (uint8_t)(code >> 8);
+    packet[2] = (uint8_t)index;
+    packet[3] = (uint8_t)(index >> 8);
+    packet[4] = (uint8_t)length;
+    packet[5] = (uint8_t)(length >> 8);
+    memcpy(packet + 6, params, length);
+    print_octets("packet", packet, 6 + length);
+    log_packet(packet, 6 + length);
+    return told(what, hub_command(state, sizeof state, packet, 6 + length, reply, sizeof reply));
+}
+
+static unsigned send_octet(const char *what, uint16_t code, uint16_t index, uint8_t value)
+{
+    return send(what, code, index, &value, 1);
+}
+
+/* The radio has done what a started command asked for. */
+static unsigned radio_reports(const char *what, uint64_t index, uint64_t status)
+{
+    return told(what, hub_report(state, sizeof state, index, status, reply, sizeof reply));
+}
+
+static unsigned clock_reads(uint32_t seconds)
+{
+    char what[64];
+    snprintf(what, sizeof what, "The clock reads %u", (unsigned)seconds);
+    return told(what, hub_clock(state, sizeof state, seconds, reply, sizeof reply));
+}
+
+/* Starts from the image in a file, or fresh where there is none. */
+static int start(const char *path)
+{
+    static const uint8_t empty[] = { 0, 0, 0, 6, 1, 0 };
+    static uint8_t image[HUB_IMAGE_MAX + 1];
+    FILE *file = path ? fopen(path, "rb") : NULL;
+    uint64_t result;
+    if (file) {
+        size_t length = fread(image, 1, sizeof image, file);
+        fclose(file);
+        result = hub_load(state, sizeof state, image, length);
+        printf("Image of %zu octets: %s\n", length, answer_name(hub_answer(result)));
+        return hub_answer(result) == HUB_DONE;
+    }
+    result = hub_load(state, sizeof state, empty, sizeof empty);
+    printf("A fresh hub: %s\n", answer_name(hub_answer(result)));
+    return hub_answer(result) == HUB_DONE;
+}
+
+/* Writes the image to a new file and renames that over the old one, so that there is a whole image at every moment. */
+static int save(const char *path)
+{
+    char fresh[4096];
+    uint64_t result = hub_save(state, sizeof state, reply, sizeof reply);
+    FILE *file;
+    told("Save", result);
+    if (hub_answer(result) != HUB_DONE || !path)
+        return hub_answer(result) == HUB_DONE;
+    if (snprintf(fresh, sizeof fresh, "%s.new", path) >= (int)sizeof fresh)
+        return 0;
+    file = fopen(fresh, "wb");
+    if (!file || fwrite(reply, 1, hub_count(result), file) != hub_count(result) || fclose(file) != 0 || rename(fresh, path) != 0) {
+        printf("%s: %s\n", path, strerror(errno));
+        return 0;
+    }
+    printf("Saved %zu octets to %s\n", hub_count(result), path);
+    return 1;
+}
+
+/* Unplugs what an image brought, so that each shift begins alike. */
+static void unplug_all(void)
+{
+    for (uint64_t index = 0; index < 4; index++)
+        (void)hub_unplug(state, sizeof state, index, reply, sizeof reply);
+}
+
+/* Two clients and a slow radio. */
+static void interleave(void)
+{
+    static const uint8_t timed[3] = { 1, 30, 0 };
+    send_octet("Client A sets controller 0 powered", 0x0005, 0, 1);
+    send_octet("Client B sets controller 0 connectable while the radio works: Busy", 0x0007, 0, 1);
+    send_octet("Client B sets controller 1 powered meanwhile", 0x0005, 1, 1);
+    send_octet("Client B sets controller 0 bondable: never Busy", 0x0009, 0, 1);
+    radio_reports("The radio of controller 1 fails with status 0x03", 1, 0x03);
+    radio_reports("The radio of controller 0 is done", 0, 0);
+    radio_reports("A report where nothing is under way", 0, 0);
+    send_octet("Client B sets controller 0 connectable", 0x0007, 0, 1);
+    radio_reports("The radio of controller 0 is done", 0, 0);
+    send("Client A sets controller 0 discoverable for 30 seconds", 0x0006, 0, timed, sizeof timed);
+    radio_reports("The radio of controller 0 is done", 0, 0);
+}
+
+/* Keys and devices. */
+static void load_keys(void)
+{
+    uint8_t list[2 + 2 * 36] = { 2, 0 };
+    static const uint8_t device[8] = { 9, 8, 7, 6, 5, 0xC4, 2, 2 };
+    static const uint8_t uuid[17] = { 0x0D, 0x18, 0, 0, 0, 0x10, 0, 0x80, 0, 0, 0x80, 0x5F, 0x9B, 0x34, 0xFB, 0, 0x20 };
+    for (unsigned k = 0; k < 2; k++) {
+        uint8_t *key = list + 2 + 36 * k;
+        key[0] = (uint8_t)(k + 1);
+        key[5] = 0xC0;
+        key[6] = 2;
+        key[9] = 16;
+    }
+    send("Client A loads two long term keys", 0x0013, 0, list, sizeof list);
+    memcpy(list + 2 + 36, list + 2, 36);
+    send("Client B loads a list that names one device twice: refused, the keys stay", 0x0013, 0, list, sizeof list);
+    send("Client A adds a device", 0x0033, 0, device, sizeof device);
+    send("Client A adds a UUID with hint 0x20", 0x0010, 0, uuid, sizeof uuid);
+}
+
+int main(int argc, char **argv)
+{
+    static const uint8_t address[6] = { 0x11, 0x22, 0x33, 0x44, 0x55, 0x66 };
+    static const uint8_t address1[6] = { 0x12, 0x22, 0x33, 0x44, 0x55, 0x66 };
+    const char *path = argc > 1 ? argv[1] : NULL;
+    if (!start(path))
+        return EXIT_FAILURE;
+    unplug_all();
+    told("Plug a dual-mode controller at 0", hub_plug(state, sizeof state, 0, address, 6, 9, 15, 0x0281, reply, sizeof reply));
+    told("Plug another at 1", hub_plug(state, sizeof state, 1, address1, 6, 9, 15, 0x0281, reply, sizeof reply));
+    clock_reads(1000);
+    interleave();
+    load_keys();
+    clock_reads(1029);
+    clock_reads(1031);
+    send_octet("Client A sets controller 1 powered", 0x0005, 1, 1);
+    told("Controller 1 is unplugged while its radio works", hub_unplug(state, sizeof state, 1, reply, sizeof reply));
+    send("Client B reads the controllers", 0x0003, 0xFFFF, address, 0);
+    if (!save(path) || (path && !start(path)))
+        return EXIT_FAILURE;
+    send("Client B reads controller 0: unpowered, its keys kept", 0x0004, 0, address, 0);
+    return EXIT_SUCCESS;
+}
