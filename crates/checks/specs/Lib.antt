@@ -1,0 +1,5 @@
+pub mod Tests
+pub mod Blocks
+pub mod Slots
+pub mod Tables
+pub mod Open
