@@ -2,17 +2,18 @@
 use mathlib.Core.Path.{_≡_, refl, ap, sym, _∙_}
 use Prim.Native.Nat.{ℕ, zero, suc, _+_, _*_, _-_, _/_, _%_, _^_, _≤_, _<_, max}
 use native.Mathlib.Omega.{arith}
-use native.Mathlib.Nat.{add-zero, mul-suc, mul-add, mul-le-mul-left, one-mul, pow-suc}
-use native.Mathlib.Numerals.{add-one}
+use native.Mathlib.Nat.{mul-add, one-mul}
 use mathlib.Core.Bool.{Bool, true, false}
-use mathlib.Core.List.{List, [], _∷_, _++_}
-use mathlib.Core.Option.{Option, none, some}
-use lib.ListN.{length, getD, take, drop, set, replicate, length-set, drop-of-length-le}
+use mathlib.Core.List.{[], _∷_}
+use mathlib.Core.Option.{none, some}
+use lib.ListN.{length, getD, drop, set, replicate, length-set, drop-of-length-le}
+use mir.Syntax.{w64}
+use mir.Val.{Fits}
 use lib.Pow.{shl-exact, pow-pos}
 use lib.Arith.{bin-ind}
 use lib.Seq.{take-take}
-use lib.Bits.{bitAnd, bitOr, or-step, or-zero-r}
-use lib.Count.{trailingZeros, trailing-of-zero}
+use lib.Bits.{bitAnd, bitOr, and-le-l, or-lt, or-step, or-zero-r}
+use lib.Count.{trailingZeros, trailing-le, trailing-of-zero}
 use Rattle.model.specs.Octets.{Octets, le32, octet, u32, same}
 use Rattle.model.specs.State.{Table}
 use Rattle.model.specs.Tables.{begins, chop, entries, freed, loaded}
@@ -20,13 +21,9 @@ use Rattle.model.specs.Layout.{region}
 use Rattle.model.specs.Proof.Region.{Sized, free}
 use Rattle.octets.specs.Parts.{part, writeAt, getD-part, length-writeAt}
 use Rattle.table.specs.Slots.{Canonical, InUse, NextUsed, firstAt, joinedByOr, tableAt, freed-first, freed-none, entries-first, sized-none}
-use Rattle.table.specs.Laws.{free-at, store-changed, release-changed, load-changed, region-nones, next-some, next-none, next-first, next-entries, in-use-entries, length-table, length-region, canonical-write, sized-at, table-write, write-over, write-part}
+use Rattle.table.specs.Laws.{free-at, store-changed, release-changed, load-changed, next-some, next-none, next-first, next-entries, in-use-entries, length-table, length-region, canonical-write, sized-at, table-write, write-over, write-part}
 
 -- places ------------------------------------------------------------------------------------------------------------------------------------------
-
--- slot k lies inside
-pub slot-room : (size k : ℕ) → k < 32 → size * k + size ≤ size * 32
-slot-room size k l = let m : size * suc k ≤ size * 32 = mul-le-mul-left size l in omega (arith, mul-suc size k)
 
 -- the slots from slot n on
 pub rest-room : (size n : ℕ) → n ≤ 32 → size * n + size * (32 - n) ≡ size * 32
@@ -41,6 +38,16 @@ one-shl64 k h = shl-exact {a = 1} 1 k 64 (omega arith) (omega arith) ∙ one-mul
 
 pub one-le-shl64 : (k : ℕ) → k ≤ 32 → 1 ≤ 1 * 2 ^ k % 18446744073709551616
 one-le-shl64 k h = rw (one-shl64 k h) (pow-pos k)
+
+-- numbers of 32 bits fit 64
+pub zeros-fit : (w : ℕ) → Fits w64 (trailingZeros 32 w)
+zeros-fit w = omega (arith, trailing-le 32 w)
+
+pub or-fits : (w b : ℕ) → w < 4294967296 → b < 4294967296 → Fits w64 (bitOr w b)
+or-fits w b h l = omega (arith, or-lt 32 w b h l)
+
+pub and-fits : (w b : ℕ) → w < 4294967296 → Fits w64 (bitAnd w b)
+and-fits w b h = omega (arith, and-le-l w b)
 
 -- a full word
 pub free-full : (s : Octets) (at size w : ℕ) → w ≡ u32 s at → w < 4294967296 → w ≡ 4294967295 → 32 ≡ free (tableAt s at size)

@@ -2,12 +2,12 @@
 use mathlib.Core.Path.{_≡_, refl, ap, sym, _∙_}
 use Prim.Native.Nat.{ℕ, zero, suc, _+_, _*_, _-_, _/_, _%_, _^_, _≤_, _<_}
 use native.Mathlib.Omega.{arith}
-use native.Mathlib.Nat.{add-zero, zero-add, add-suc, suc-add, add-assoc, mul-suc, mul-zero, pow-suc, mul-le-mul-left, one-le-pow, mod-eq-of-lt, div-div-eq-div-mul, div-add-mod', mul-comm, mul-add, sub-zero}
+use native.Mathlib.Nat.{add-zero, zero-add, suc-add, mul-suc, mul-zero, pow-suc, mul-le-mul-left, one-le-pow, mod-eq-of-lt, div-div-eq-div-mul, div-add-mod', mul-comm, mul-add, sub-zero}
 use mathlib.Core.Bool.{Bool, true, false}
 use mathlib.Core.List.{List, [], _∷_, _++_, map, append-assoc, append-nil}
 use mathlib.Core.Option.{Option, none, some}
-use lib.ListN.{length, getD, take, drop, set, replicate, length-append, length-take, length-drop, length-set, length-replicate, take-append-drop, replicate-append-replicate, drop-of-length-le}
-use lib.Seq.{sets, sets-eq, getD-drop, drop-drop, drop-at, take-at, take-append-seam, take-add, length-take-le}
+use lib.ListN.{length, getD, take, drop, set, replicate, length-append, length-replicate, take-append-drop, replicate-append-replicate, drop-of-length-le}
+use lib.Seq.{sets-eq, getD-drop, drop-drop, drop-at, take-at, take-append-seam, take-add, length-take-le}
 use lib.Pow.{pow-lt, shr-lt}
 use lib.Bits.{bitAnd, bitOr, or-step, and-step, or-zero-r, and-mask}
 use lib.Count.{ones, trailingZeros, under}
@@ -231,7 +231,8 @@ u32-drop s at =
     let d : getD (drop at s) 3 0 ≡ getD s (at + 2 + 1) 0 = getD-drop at s 3 0 ∙ rw e in
     sym (rw (a, getD-drop at s 1 0, getD-drop at s 2 0, d))
 
-table-drop : (s : Octets) (at size : ℕ) → tableAt s at size ≡ tableBack size (drop at s)
+-- the table, by the octets from its place on
+pub table-drop : (s : Octets) (at size : ℕ) → tableAt s at size ≡ tableBack size (drop at s)
 unfolding tableAt tableBack
 table-drop s at size = rw (u32-drop s at, ← drop-drop 4 at s)
 
@@ -298,6 +299,15 @@ canonical-write s at size t h z l =
     let p : part (writeAt s at (region size t)) at (length (region size t)) ≡ region size t = part-write s at (region size t) (rw n h) in
     rw (table-write s at size t h z l) (rw n at p)
 
+-- the same where the octets of the table are there already
+pub table-part : (s : Octets) (at size : ℕ) (t : Table) → at + (4 + size * 32) ≤ length s → Sized size t → length t ≡ 32 → part s at (4 + size * 32) ≡ region size t → tableAt s at size ≡ t
+table-part s at size t h z l e =
+    let w : writeAt s at (region size t) ≡ s = rw (sym e) (write-part s at (4 + size * 32) h) in
+    rw w at (table-write s at size t h z l)
+
+pub canonical-part : (s : Octets) (at size : ℕ) (t : Table) → at + (4 + size * 32) ≤ length s → Sized size t → length t ≡ 32 → part s at (4 + size * 32) ≡ region size t → Canonical s at size
+canonical-part s at size t h z l e = rw (table-part s at size t h z l e) e
+
 -- 5. A slot written -------------------------------------------------------------------------------------------------------------------------------------
 
 word-over : (w v : ℕ) (o : Octets) → writeAt (le32 w ++ o) 0 (le32 v) ≡ le32 v ++ o
@@ -308,7 +318,8 @@ length-le32 : (w : ℕ) → length (le32 w) ≡ 4
 unfolding le32
 length-le32 w = refl
 
-slot-room : (size k : ℕ) → k < 32 → size * k + size ≤ size * 32
+-- slot k lies inside
+pub slot-room : (size k : ℕ) → k < 32 → size * k + size ≤ size * 32
 slot-room size k l = let m : size * suc k ≤ size * 32 = mul-le-mul-left size l in omega (arith, mul-suc size k)
 
 -- the octets of a slot over slot k of a table

@@ -1,20 +1,25 @@
 -- Tables of 32 slots where they lie in octets: what the functions of this crate say of them, and laws of tables as lists of slots.
 use mathlib.Core.Path.{_≡_, refl, ap, sym, _∙_}
-use Prim.Native.Nat.{ℕ, zero, suc, _+_, _*_, _-_, _/_, _%_, _^_, _≤_, _<_}
+use Prim.Native.Nat.{ℕ, zero, suc, _+_, _*_, _-_, _≤_, _<_}
 use native.Mathlib.Omega.{arith}
-use mathlib.Core.Bool.{Bool, true, false, _&&_, _||_, not}
+use native.Mathlib.Nat.{mul-suc}
+use mathlib.Core.Bool.{Bool, true, false, _||_}
 use mathlib.Core.List.{List, [], _∷_, _++_, map, foldr}
 use mathlib.Core.Option.{Option, none, some}
-use lib.ListN.{length, getD, take, drop, set, replicate, length-append, length-map, length-replicate, length-set}
+use lib.ListN.{length, drop, set, replicate, length-append, length-map, length-replicate, length-set, length-drop}
+use lib.Seq.{length-take-le}
 use borrow.Author.Tests.{lt-ltb, le-ltb, ltb-true, ltb-false, eq-eqb, eqb-true, ne-eqb, eqb-false}
 use lib.Dec.{eqb, ltb}
 use lib.Bits.{bitOr}
 use Rattle.model.specs.Octets.{Octets, octet, u32}
+use Rattle.model.specs.declared.Hardware.{Hardware}
 use Rattle.model.specs.State.{Table}
-use Rattle.model.specs.Tables.{entries, any, holds, full, freed, replaced, added, loaded, chop}
+use Rattle.model.specs.WellFormed.{tableOk}
+use Rattle.model.specs.Tables.{entries, any, holds, full, freed, replaced, added, stored, loaded, chop, TableRule, every, recordOk}
 use Rattle.model.specs.Layout.{slotOctets, region, slotsBack}
-use Rattle.model.specs.Proof.Tests.{either, no-way}
+use Rattle.model.specs.Proof.Tests.{and-true, either, equal}
 use Rattle.model.specs.Proof.Region.{Sized, free, added-set}
+use Rattle.model.specs.Proof.Tables.{table-fit}
 use Rattle.octets.specs.Parts.{part}
 
 -- 1. Definitions ------------------------------------------------------------------------------------------------------------------------------
@@ -107,6 +112,15 @@ replaced-set m x (some r ∷ t) = go (m r) (replaced-set m x t)
         → _≡_ {A = Table} (elim b [ true ↦ some x ∷ t | false ↦ some r ∷ replaced m x t ]) (set (some r ∷ t) (elim b [ true ↦ 0 | false ↦ suc (firstAt m t) ]) (some x))
     go true e = refl
     go false e = ap {B = Table} (λ l. some r ∷ l) e
+
+-- storing is a write to the slot found, or else to the lowest free one
+pub stored-found : (m : Octets → Bool) (x : Octets) (t : Table) → firstAt m t < length t → stored m x t ≡ set t (firstAt m t) (some x)
+unfolding stored
+stored-found m x t l = let h : holds m t ≡ true = holds-first m t ∙ lt-ltb (firstAt m t) (length t) l in rw (h, stored) (replaced-set m x t)
+
+pub stored-new : (m : Octets → Bool) (x : Octets) (t : Table) → firstAt m t ≡ length t → stored m x t ≡ set t (free t) (some x)
+unfolding stored
+stored-new m x t e = let h : holds m t ≡ false = holds-first m t ∙ le-ltb (firstAt m t) (length t) (omega arith) in rw (h, stored) (added-set x t)
 
 -- 3. Slots freed ----------------------------------------------------------------------------------------------------------------------------------
 
@@ -204,3 +218,30 @@ pub sized-nones : (size n : ℕ) → Sized size (replicate n none)
 unfolding Sized slotOctets
 sized-nones size zero = tt
 sized-nones size (suc n) = (length-replicate size 0, sized-nones size n)
+
+-- n records cut from octets that are long enough
+sized-run : (size n : ℕ) (o : Octets) (m : ℕ) → size * n ≤ length o → Sized size (map some (chop size n o) ++ replicate m none)
+unfolding Sized slotOctets chop
+sized-run size zero o m h = sized-nones size m
+sized-run size (suc n) o m h =
+    let e : size * suc n ≡ size * n + size = mul-suc size n in
+    (length-take-le size o (omega arith), sized-run size n (drop size o) m (rw length-drop (omega arith)))
+
+pub sized-loaded : (size n : ℕ) (src : Octets) (from : ℕ) → from + size * n ≤ length src → Sized size (loaded (chop size n (drop from src)))
+unfolding loaded
+sized-loaded size n src from h = sized-run size n (drop from src) (32 - length (chop size n (drop from src))) (rw length-drop (omega arith))
+
+-- the records of a well-formed table have its rule's size
+sized-every : (u : TableRule) (t : Table) → every (recordOk u) (entries t) ≡ true → Sized (u .size) t
+unfolding Sized slotOctets entries every recordOk
+sized-every u [] e = tt
+sized-every u (none ∷ t) e = (length-replicate (u .size) 0, sized-every u t e)
+sized-every u (some r ∷ t) e =
+    let a = and-true (recordOk u r) (every (recordOk u) (entries t)) e in
+    (equal (length r) (u .size) (and-true (eqb (length r) (u .size)) _ (a .0) .0), sized-every u t (a .1))
+
+pub sized-ok : (u : TableRule) (f : Hardware) (t : Table) → tableOk u f t ≡ true → Sized (u .size) t
+sized-ok u f t e = sized-every u t (table-fit u f t e .each)
+
+pub length-ok : (u : TableRule) (f : Hardware) (t : Table) → tableOk u f t ≡ true → length t ≡ 32
+length-ok u f t e = table-fit u f t e .slots

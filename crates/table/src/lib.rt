@@ -29,7 +29,7 @@ pub fn free_slot(s: &[u8], at: usize) -> usize
     u32::trailing_zeros(!w) as usize
 }
 
-// The first slot from k on that is in use; 32 if there is none.
+// The first slot from k on that is in use; 32 if there is none. Records are walked in slot order by it.
 pub fn next_used(s: &[u8], at: usize, k: usize) -> usize
     requires { ⌜ (at + 4 ≤ length (now s)) × (k ≤ 32) ⌝ }
     ensures { λ r. ⌜ ((size : ℕ) → NextUsed (now (s .entry)) at size k r) × (k ≤ r) × (r ≤ 32) ⌝ }
@@ -41,7 +41,7 @@ pub fn next_used(s: &[u8], at: usize, k: usize) -> usize
     k + (u64::trailing_zeros(w) as usize)
 }
 
-// The first slot whose record has the first n octets of the key; 32 if there is none.
+// The first slot whose record has the first n octets of the key; 32 if there is none. Free slots are passed over.
 pub fn find(s: &[u8], at: usize, size: usize, key: &[u8], n: usize) -> usize
     requires { ⌜ (at + (4 + size * 32) ≤ length (now s)) × (n ≤ size) × (n ≤ length (now key)) ⌝ }
     ensures { λ r. ⌜ (r ≡ firstAt (begins n (now (key .entry))) (tableAt (now (s .entry)) at size)) × (r ≤ 32) ⌝ }
@@ -62,10 +62,10 @@ pub fn or_octets(s: &[u8], at: usize, size: usize, place: usize) -> u8
     ensures { λ r. ⌜ r ≡ joinedByOr place (entries (tableAt (now (s .entry)) at size)) ⌝ }
 {
     let mut hints: u8 = 0;
-    let mut k = next_used(s, at, 0);
-    while k < 32 {
-        hints = hints | s[at + (4 + size * k) + place];
-        k = next_used(s, at, k + 1);
+    let mut slot = next_used(s, at, 0);
+    while slot < 32 {
+        hints = hints | s[at + (4 + size * slot) + place];
+        slot = next_used(s, at, slot + 1);
     }
     hints
 }
@@ -87,9 +87,9 @@ pub fn release(s: &mut [u8], at: usize, size: usize, k: usize)
     ensures { λ _. ⌜ now (s .exit) ≡ writeAt (now (s .entry)) at (region size (set (tableAt (now (s .entry)) at size) k none)) ⌝ }
 {
     let w = octets::u32_at(s, at) as u32;
-    let bit: u32 = 1 << k;
+    let mask: u32 = !(1 << k);
     octets::zero_fill(s, at + (4 + size * k), size);
-    octets::put32(s, at, (w & !bit) as u64);
+    octets::put32(s, at, (w & mask) as u64);
 }
 
 // Frees every slot whose record has the first n octets of the key.
@@ -97,10 +97,10 @@ pub fn release_matching(s: &mut [u8], at: usize, size: usize, key: &[u8], n: usi
     requires { ⌜ (at + (4 + size * 32) ≤ length (now s)) × Canonical (now s) at size × (n ≤ size) × (n ≤ length (now key)) ⌝ }
     ensures { λ _. ⌜ now (s .exit) ≡ writeAt (now (s .entry)) at (region size (freed (begins n (now (key .entry))) (tableAt (now (s .entry)) at size))) ⌝ }
 {
-    let mut k = find(s, at, size, key, n);
-    while k < 32 {
-        release(s, at, size, k);
-        k = find(s, at, size, key, n);
+    let mut hit = find(s, at, size, key, n);
+    while hit < 32 {
+        release(s, at, size, hit);
+        hit = find(s, at, size, key, n);
     }
 }
 
@@ -113,6 +113,7 @@ pub fn release_all(s: &mut [u8], at: usize, size: usize)
 }
 
 // Loads the n records that lie in src from a place on, record k into slot k: what the table held before is gone.
+// The word is made in 64 bits, where n = 32 is no case of its own.
 pub fn load(s: &mut [u8], at: usize, size: usize, src: &[u8], from: usize, n: usize)
     requires { ⌜ (at + (4 + size * 32) ≤ length (now s)) × (n ≤ 32) × (from + size * n ≤ length (now src)) ⌝ }
     ensures { λ _. ⌜ now (s .exit) ≡ writeAt (now (s .entry)) at (region size (loaded (chop size n (drop from (now (src .entry)))))) ⌝ }

@@ -1,0 +1,67 @@
+-- Laws that the proofs of this crate cite, over plain lists and numbers, in the form in which the code leaves them.
+use mathlib.Core.Path.{_≡_, refl, ap, sym, _∙_}
+use Prim.Native.Nat.{ℕ, zero, suc, _+_, _-_, _*_, _≤_, _<_}
+use native.Mathlib.Omega.{arith}
+use mathlib.Core.List.{List, [], _∷_, _++_}
+use mathlib.Core.Option.{Option, none, some}
+use lib.ListN.{length, getD, replicate}
+use borrow.Author.Tests.{eq-eqb, ne-eqb, le-leb, lt-leb, le-ltb, lt-ltb}
+use Rattle.model.specs.declared.Settings.{Settings}
+use Rattle.model.specs.Octets.{Octets, le16}
+use Rattle.model.specs.State.{OpenCommand}
+use Rattle.model.specs.Hub.{withOpen}
+use Rattle.model.specs.Layout.{decode, encode, settingsPart}
+use Rattle.octets.specs.Parts.{placeAt, write-split, writeAt}
+use Rattle.layout.specs.Places.{Ready, base, controllerOf, placeOf, putController, settingsHead, sizes, tablePlace}
+use Rattle.rules.specs.Effects.{withSettings}
+use Rattle.layout.specs.Change.{settings-changed}
+use Rattle.layout.specs.Open.{open-put}
+
+-- a test of the code, as the model's test
+pub ruleset tests = (eq-eqb, ne-eqb, le-leb, lt-leb, le-ltb, lt-ltb)
+
+-- where the tables lie in a block
+abbrev pub offsets : List ℕ
+offsets = 292 ∷ 840 ∷ 1644 ∷ 2800 ∷ 3540 ∷ 3768 ∷ []
+
+-- inside it
+pub offset-below : (k : ℕ) → getD offsets k 0 < 4028
+offset-below zero = omega arith
+offset-below (suc zero) = omega arith
+offset-below (suc (suc zero)) = omega arith
+offset-below (suc (suc (suc zero))) = omega arith
+offset-below (suc (suc (suc (suc zero)))) = omega arith
+offset-below (suc (suc (suc (suc (suc zero))))) = omega arith
+offset-below (suc (suc (suc (suc (suc (suc k)))))) = omega arith
+
+offset-is : (k : ℕ) → k < 6 → getD offsets k 0 ≡ placeAt sizes (5 + k)
+unfolding placeAt sizes
+offset-is zero l = refl
+offset-is (suc zero) l = refl
+offset-is (suc (suc zero)) l = refl
+offset-is (suc (suc (suc zero))) l = refl
+offset-is (suc (suc (suc (suc zero)))) l = refl
+offset-is (suc (suc (suc (suc (suc zero))))) l = refl
+offset-is (suc (suc (suc (suc (suc (suc k)))))) l = absurd (omega arith)
+
+-- where the model puts them
+pub table-is : (i k : ℕ) → k < 6 → base i + getD offsets k 0 ≡ tablePlace i k
+unfolding tablePlace placeOf
+table-is i k l = rw (offset-is k l)
+
+-- the flags and the timer, then the address
+pub settings-put : (s : Octets) (i : ℕ) (m : Settings) → Ready s i → length (m .radio .staticAddress) ≡ 6
+    → writeAt (writeAt s (base i + 19) (settingsHead m)) (base i + 26) (m .radio .staticAddress) ≡ encode (putController (decode s) i (withSettings (controllerOf s i) m))
+unfolding placeOf placeAt sizes settingsHead settingsPart le16
+settings-put s i m r n =
+    let e : base i + 26 ≡ base i + 19 + 7 = omega arith in
+    rw e (sym (write-split s (base i + 19) (settingsHead m) (m .radio .staticAddress)) ∙ settings-changed s i r m n)
+
+-- the code, the parameters, zeros
+pub open-laid : (s : Octets) (i code : ℕ) (ps : Octets) → Ready s i → length ps ≤ 3
+    → writeAt (writeAt (writeAt s (base i + 1) (le16 code)) (base i + 3) ps) (base i + 3 + length ps) (replicate (3 - length ps) 0)
+    ≡ encode (withOpen (decode s) i (some (record { code = code; params = ps })))
+unfolding placeOf placeAt sizes
+open-laid s i code ps r l =
+    let e : base i + 3 ≡ base i + 1 + 2 = omega arith in
+    rw e (open-put s i code ps r l)

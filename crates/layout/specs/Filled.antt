@@ -1,0 +1,106 @@
+-- The block of an absent index, which is zero, filled by plug; and the clock.
+use mathlib.Core.Path.{_≡_, refl, ap, sym, _∙_}
+use Prim.Native.Nat.{ℕ, zero, suc, _+_, _*_, _-_, _≤_, _<_}
+use native.Mathlib.Omega.{arith}
+use native.Mathlib.Nat.{add-zero}
+use mathlib.Core.Bool.{Bool, true, false}
+use mathlib.Core.List.{List, [], _∷_, _++_, map}
+use mathlib.Core.Option.{Option, none, some}
+use lib.ListN.{length, getD, take, drop, set, replicate, length-append}
+use lib.Dec.{lit<, lit≤}
+use Rattle.model.specs.declared.Hardware.{Hardware}
+use Rattle.model.specs.Octets.{Octets, le16, le32}
+use Rattle.model.specs.State.{Hub, OpenCommand, flag, leSupported, noTables, noTimer, plugged, settingsOf}
+use Rattle.model.specs.Tables.{blockedRule, deviceRule, identityKeyRule, linkKeyRule, longTermKeyRule, tableRules, uuidRule}
+use Rattle.model.specs.Layout.{block, decode, encode, hardwarePart, occupancy, openPart, region, settingsPart, slotOctets, slots}
+use Rattle.model.specs.Meanings.{stateOk}
+use Rattle.model.specs.Proof.Demand3.{state-back, state-well}
+use Rattle.octets.specs.Parts.{join, lengths, placeAt, write-split, write-whole, writeAt}
+use Rattle.layout.specs.Places.{base, hardwareHead, openAt, placeOf, presentAt, putController, sizes, withClock}
+use Rattle.layout.specs.Reads.{absent-open, absent-slot}
+use Rattle.layout.specs.Lens.{Shaped, join-block, piece-write, pieces, regionPieces, shaped, state-is, state-put, withBlock, withSlot, write-in-sized, writeIn}
+use Rattle.layout.specs.Change.{put-controller}
+
+-- 1. A block filled ---------------------------------------------------------------------------------------------------------------------------
+
+-- the pieces of a block that is zero
+zeroPieces : List Octets
+zeroPieces = map (λ n. replicate n 0) sizes
+
+zero-sized : lengths zeroPieces ≡ sizes
+unfolding zeroPieces lengths sizes
+zero-sized = refl
+
+zero-block : (o : Option OpenCommand) → block none o ≡ join zeroPieces
+unfolding zeroPieces join sizes block
+zero-block o = refl
+
+length-hardware : (f : Hardware) → length (f .publicAddress) ≡ 6 → length (hardwarePart f) ≡ 13
+unfolding hardwarePart le16 le32
+length-hardware f n = omega arith
+
+-- with 1 before them, the hardware and the flag of Low Energy, they are those of a controller just plugged
+filled-pieces : (f : Hardware) → length (f .publicAddress) ≡ 6
+    → writeIn (writeIn (writeIn zeroPieces 0 0 (1 ∷ [])) 2 0 (hardwarePart f)) 3 4 (flag (leSupported f) 1 ∷ []) ≡ pieces (plugged f) none
+unfolding zeroPieces sizes writeIn writeAt pieces openPart plugged settingsPart settingsOf noTimer noTables flag le16 le32 regionPieces region occupancy slots slotOctets tableRules uuidRule linkKeyRule longTermKeyRule identityKeyRule blockedRule deviceRule
+filled-pieces f n =
+    let hw : writeAt (replicate 13 0) 0 (hardwarePart f) ≡ hardwarePart f = write-whole (replicate 13 0) (hardwarePart f) (length-hardware f n) in
+    ap {B = List Octets} (λ x. (1 ∷ []) ∷ replicate 5 0 ∷ x ∷ (0 ∷ 0 ∷ 0 ∷ 0 ∷ flag (leSupported f) 1 ∷ replicate 8 0) ∷ drop 4 zeroPieces) hw
+
+-- the hardware in two writes
+two-parts : (d : Octets) (b : ℕ) (f : Hardware) → writeAt (writeAt d (b + 6) (hardwareHead f)) (b + 13) (f .publicAddress) ≡ writeAt d (b + 6) (hardwarePart f)
+unfolding hardwareHead hardwarePart le16 le32
+two-parts d b f =
+    let e : b + 13 ≡ b + 6 + 7 = omega arith in
+    rw e (sym (write-split d (b + 6) (hardwareHead f) (f .publicAddress)))
+
+module _ (s : Octets) (i : ℕ) (f : Hardware) (ok : stateOk s ≡ true) (l : i < 4) (gone : presentAt s i ≡ false) (n : length (f .publicAddress) ≡ 6) where
+  shape : Shaped (decode s) i
+  shape = shaped (decode s) i (state-well s ok) l
+
+  zero-now : s ≡ withBlock (decode s) i (join zeroPieces)
+  zero-now = state-back s ok ∙ state-is (decode s) i (shape .below) ∙ rw (absent-slot s i l gone, zero-block (getD (decode s .openCommands) i none))
+
+  -- present, hardware and Low Energy, each in its piece
+  three-writes : writeAt (writeAt (writeAt s (placeOf i 0 + 0) (1 ∷ [])) (placeOf i 2 + 0) (hardwarePart f)) (placeOf i 3 + 4) (flag (leSupported f) 1 ∷ [])
+      ≡ withBlock (decode s) i (join (pieces (plugged f) none))
+  unfolding sizes
+  three-writes =
+      let h = decode s in
+      let ps = writeIn zeroPieces 0 0 (1 ∷ []) in
+      let z = write-in-sized zeroPieces 0 0 (1 ∷ []) zero-sized in
+      let qs = writeIn ps 2 0 (hardwarePart f) in
+      let y = write-in-sized ps 2 0 (hardwarePart f) z in
+      let m = length-hardware f n in
+      let one = ap (λ (x : Octets). writeAt x (placeOf i 0 + 0) (1 ∷ [])) zero-now ∙ piece-write h i shape zeroPieces zero-sized 0 0 (1 ∷ []) (lit< tt) (lit≤ tt) in
+      let two = ap (λ (x : Octets). writeAt x (placeOf i 2 + 0) (hardwarePart f)) one ∙ piece-write h i shape ps z 2 0 (hardwarePart f) (lit< tt) (omega arith) in
+      ap (λ (x : Octets). writeAt x (placeOf i 3 + 4) (flag (leSupported f) 1 ∷ [])) two
+      ∙ piece-write h i shape qs y 3 4 (flag (leSupported f) 1 ∷ []) (lit< tt) (lit≤ tt)
+      ∙ ap (λ (x : List Octets). withBlock h i (join x)) (filled-pieces f n)
+
+  plugged-state : withBlock (decode s) i (join (pieces (plugged f) none)) ≡ encode (putController (decode s) i (plugged f))
+  unfolding openAt
+  plugged-state =
+      let o : getD (decode s .openCommands) i none ≡ none = absent-open s i l gone in
+      let p : withSlot (decode s) i (some (plugged f)) none ≡ putController (decode s) i (plugged f) = rw o at (put-controller (decode s) i (plugged f)) in
+      rw (← join-block (plugged f) none) (state-put (decode s) i (some (plugged f)) none (shape .beside)) ∙ ap encode p
+
+  -- the four writes of plug: present, the hardware in two parts, Low Energy
+  pub block-filled : writeAt (writeAt (writeAt (writeAt s (base i) (1 ∷ [])) (base i + 6) (hardwareHead f)) (base i + 13) (f .publicAddress)) (base i + 23) (flag (leSupported f) 1 ∷ [])
+      ≡ encode (putController (decode s) i (plugged f))
+  unfolding placeOf placeAt sizes
+  block-filled =
+      let e : base i + 23 ≡ base i + 19 + 4 = omega arith in
+      let g = three-writes in
+      rw (two-parts (writeAt s (base i) (1 ∷ [])) (base i) f, e) ((simp add-zero at g) ∙ plugged-state)
+
+-- 2. The clock --------------------------------------------------------------------------------------------------------------------------------
+
+-- the number at the start, over the number that stands there
+clock-over : (v w : ℕ) (x : Octets) → writeAt (le32 v ++ x) 0 (le32 w) ≡ le32 w ++ x
+unfolding writeAt le32
+clock-over v w x = refl
+
+pub clock-changed : (s : Octets) (v : ℕ) → stateOk s ≡ true → writeAt s 0 (le32 v) ≡ encode (withClock (decode s) v)
+unfolding encode withClock
+clock-changed s v ok = ap (λ (x : Octets). writeAt x 0 (le32 v)) (state-back s ok) ∙ clock-over _ v _

@@ -1,0 +1,8 @@
+pub mod Places
+pub mod Reads
+pub mod Lens
+pub mod Change
+pub mod Tables
+pub mod Kept
+pub mod Open
+pub mod Filled

@@ -1,0 +1,97 @@
+-- Where each part of the lent state lies and what stands there: the definitions that the contracts cite, total functions of the octets.
+use Prim.Native.Nat.{ℕ, zero, suc, _+_, _*_, _<_}
+use mathlib.Core.Path.{_≡_}
+use mathlib.Core.Bool.{Bool, true, false, _&&_}
+use mathlib.Core.List.{List, [], _∷_, _++_}
+use mathlib.Core.Option.{Option, none, some}
+use lib.ListN.{length, getD, drop, set}
+use lib.Dec.{eqb, ltb}
+use borrow.Author.Tests.{ltb-true}
+use Rattle.model.specs.declared.Hardware.{Hardware}
+use Rattle.model.specs.declared.Settings.{Settings}
+use Rattle.model.specs.Octets.{Octets, le16, le32, u32}
+use Rattle.model.specs.State.{Controller, Hub, OpenCommand, Table, flag, withController}
+use Rattle.model.specs.Tables.{chop}
+use Rattle.model.specs.Layout.{controllerBack, decode, slotsBack}
+use Rattle.model.specs.Meanings.{stateOk}
+use Rattle.model.specs.Proof.Demand3.{state-long}
+use Rattle.model.specs.Proof.Tests.{and-true}
+use Rattle.octets.specs.Parts.{part, placeAt}
+
+-- 1. Places -----------------------------------------------------------------------------------------------------------------------------------
+
+-- where block i begins: after the clock, blocks of one length
+abbrev pub base : ℕ → ℕ
+base i = 4 + 4028 * i
+
+-- the sizes of a block's pieces: present, open command, hardware, settings, name, six tables
+unfoldable pub sizes : List ℕ
+sizes = 1 ∷ 5 ∷ 13 ∷ 13 ∷ 260 ∷ 548 ∷ 804 ∷ 1156 ∷ 740 ∷ 228 ∷ 260 ∷ []
+
+-- where piece k of block i begins
+unfoldable pub placeOf : ℕ → ℕ → ℕ
+placeOf i k = base i + placeAt sizes k
+
+-- where table k of block i begins: the tables are the pieces from 5 on
+unfoldable pub tablePlace : ℕ → ℕ → ℕ
+tablePlace i k = placeOf i (5 + k)
+
+-- 2. What stands there ------------------------------------------------------------------------------------------------------------------------
+
+-- index i is one of four, and its block begins with 1
+unfoldable pub presentAt : Octets → ℕ → Bool
+presentAt s i = ltb i 4 && eqb (getD s (base i) 0) 1
+
+-- the controller that block i holds, if it holds one
+unfoldable pub controllerOf : Octets → ℕ → Controller
+controllerOf s i = controllerBack (drop 6 (part s (base i) 4028))
+
+-- the command under way at index i
+unfoldable pub openAt : Octets → ℕ → Option OpenCommand
+openAt s i = getD (decode s .openCommands) i none
+
+-- the hardware but for the address that follows it
+unfoldable pub hardwareHead : Hardware → Octets
+hardwareHead f = f .version ∷ (le16 (f .manufacturer) ++ le32 (f .supported))
+
+-- the flags and the timer: the settings but for the address that follows them
+unfoldable pub settingsHead : Settings → Octets
+settingsHead m =
+    flag (m .radio .powered) 1
+    ∷ flag (m .radio .connectable) 1
+    ∷ flag (m .host .timer .discoverable) 1
+    ∷ flag (m .host .bondable) 1
+    ∷ flag (m .radio .lowEnergy) 1
+    ∷ le16 (m .host .timer .seconds)
+
+-- 3. What a write makes of the hub ------------------------------------------------------------------------------------------------------------
+
+-- the hub with controller i changed
+unfoldable pub putController : Hub → ℕ → Controller → Hub
+putController h i c = record { plain = withController (h .plain) i (some c); openCommands = h .openCommands }
+
+-- the hub with index i empty, and nothing under way there
+unfoldable pub emptied : Hub → ℕ → Hub
+emptied h i = record { plain = withController (h .plain) i none; openCommands = set (h .openCommands) i none }
+
+-- the hub with another reading of the clock
+unfoldable pub withClock : Hub → ℕ → Hub
+withClock h v = record { plain = record { clock = v; controllers = h .plain .controllers }; openCommands = h .openCommands }
+
+-- 4. What a command may assume ----------------------------------------------------------------------------------------------------------------
+
+-- the state is well formed and index i present, with the numbers that follow
+pub record Ready (s : Octets) (i : ℕ) : Type 0 where
+  pub ok : stateOk s ≡ true
+  pub here : presentAt s i ≡ true
+  pub long : length s ≡ 16116
+  pub below : i < 4
+
+-- a present index is one of four
+pub present-below : (s : Octets) (i : ℕ) → presentAt s i ≡ true → i < 4
+unfolding presentAt
+present-below s i e = ltb-true i 4 (and-true (ltb i 4) _ e .0)
+
+-- the two tests make it
+pub ready : (s : Octets) (i : ℕ) → stateOk s ≡ true → presentAt s i ≡ true → Ready s i
+ready s i ok here = record { ok = ok; here = here; long = state-long s ok; below = present-below s i here }

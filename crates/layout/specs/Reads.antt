@@ -1,0 +1,182 @@
+-- Reading by places: `decode` is reading at fixed places, so each read is said in the model's words and holds of any octets.
+use mathlib.Core.Path.{_≡_, refl, ap, sym, _∙_}
+use Prim.Native.Nat.{ℕ, zero, suc, _+_, _*_, _-_, _≤_, _<_}
+use native.Mathlib.Omega.{arith}
+use native.Mathlib.Nat.{add-zero}
+use mathlib.Core.Bool.{Bool, true, false, _&&_}
+use mathlib.Core.List.{List, [], _∷_, _++_}
+use mathlib.Core.Option.{Option, none, some}
+use lib.ListN.{length, getD, take, drop}
+use lib.Seq.{getD-drop, drop-drop}
+use lib.Dec.{eqb, ltb, lit<, lit≤}
+use borrow.Author.Tests.{lt-ltb, ltb-true}
+use Rattle.model.specs.declared.Hardware.{Hardware}
+use Rattle.model.specs.declared.Settings.{Settings}
+use Rattle.model.specs.Octets.{Octets, u16, u32}
+use Rattle.model.specs.State.{Controller, OpenCommand, controllerAt, settingsOf}
+use Rattle.model.specs.Commands.{rule}
+use Rattle.model.specs.Layout.{controllerBack, controllerIn, controllersIn, decode, openBack, openIn, openWith, opensIn, sizeOf}
+use Rattle.model.specs.Proof.Tests.{and-true}
+use Rattle.octets.specs.Parts.{part, getD-part, part-part, placeAt}
+use Rattle.layout.specs.Places.{Ready, base, controllerOf, openAt, placeOf, presentAt, sizes}
+
+-- 1. The blocks of the decoded state ----------------------------------------------------------------------------------------------------------
+
+-- the controller of block i
+controllers-at : (n : ℕ) (o : Octets) (i : ℕ) → i < n → getD (controllersIn n o) i none ≡ controllerIn (part o (4028 * i) 4028)
+unfolding controllersIn part
+controllers-at zero o i l = absurd (omega arith)
+controllers-at (suc n) o zero l = refl
+controllers-at (suc n) o (suc i) l =
+    let e : 4028 * suc i ≡ 4028 + 4028 * i = omega arith in
+    rw (e, ← drop-drop (4028 * i) 4028 o) (controllers-at n (drop 4028 o) i (omega arith))
+
+-- the open command of block i
+opens-at : (n : ℕ) (o : Octets) (i : ℕ) → i < n → getD (opensIn n o) i none ≡ openIn (part o (4028 * i) 4028)
+unfolding opensIn part
+opens-at zero o i l = absurd (omega arith)
+opens-at (suc n) o zero l = refl
+opens-at (suc n) o (suc i) l =
+    let e : 4028 * suc i ≡ 4028 + 4028 * i = omega arith in
+    rw (e, ← drop-drop (4028 * i) 4028 o) (opens-at n (drop 4028 o) i (omega arith))
+
+-- the octets of block i, from behind the clock and from the start
+block-octets : (s : Octets) (i : ℕ) → part (drop 4 s) (4028 * i) 4028 ≡ part s (base i) 4028
+unfolding part
+block-octets s i = rw (drop-drop (4028 * i) 4 s)
+
+-- the same, of the decoded state
+block-controller : (s : Octets) (i : ℕ) → i < 4 → getD (decode s .plain .controllers) i none ≡ controllerIn (part s (base i) 4028)
+unfolding decode
+block-controller s i l = controllers-at 4 (drop 4 s) i l ∙ ap controllerIn (block-octets s i)
+
+pub block-open : (s : Octets) (i : ℕ) → i < 4 → openAt s i ≡ openIn (part s (base i) 4028)
+unfolding decode openAt
+block-open s i l = opens-at 4 (drop 4 s) i l ∙ ap openIn (block-octets s i)
+
+-- a block's first octet
+first-octet : (s : Octets) (i : ℕ) → getD (part s (base i) 4028) 0 0 ≡ getD s (base i) 0
+first-octet s i = getD-part s (base i) 4028 0 (omega arith) ∙ rw add-zero
+
+-- what the first octet says
+controller-some : (o : Octets) → eqb (getD o 0 0) 1 ≡ true → controllerIn o ≡ some (controllerBack (drop 6 o))
+unfolding controllerIn
+controller-some o e = rw (e, controllerIn)
+
+controller-none : (o : Octets) → eqb (getD o 0 0) 1 ≡ false → controllerIn o ≡ none
+unfolding controllerIn
+controller-none o e = rw (e, controllerIn)
+
+pub open-some : (o : Octets) → eqb (getD o 0 0) 1 ≡ true → openIn o ≡ openBack (drop 1 o)
+unfolding openIn
+open-some o e = rw (e, openIn)
+
+open-none : (o : Octets) → eqb (getD o 0 0) 1 ≡ false → openIn o ≡ none
+unfolding openIn
+open-none o e = rw (e, openIn)
+
+-- 2. Present and absent -----------------------------------------------------------------------------------------------------------------------
+
+-- the test of a present index, taken apart
+pub present-octet : (s : Octets) (i : ℕ) → presentAt s i ≡ true → (i < 4) × (eqb (getD (part s (base i) 4028) 0 0) 1 ≡ true)
+unfolding presentAt
+present-octet s i e = let a = and-true (ltb i 4) _ e in (ltb-true i 4 (a .0), rw (first-octet s i) (a .1))
+
+-- a present index holds the controller that stands there
+pub present-slot : (s : Octets) (i : ℕ) → presentAt s i ≡ true → getD (decode s .plain .controllers) i none ≡ some (controllerOf s i)
+unfolding controllerOf
+present-slot s i e =
+    let a = present-octet s i e in
+    block-controller s i (a .0) ∙ controller-some (part s (base i) 4028) (a .1)
+
+pub present-controller : (s : Octets) (i : ℕ) → Ready s i → controllerAt (decode s .plain) i ≡ some (controllerOf s i)
+unfolding controllerAt
+present-controller s i r = rw (lt-ltb i 4 (r .below), controllerAt) (present-slot s i (r .here))
+
+-- an absent index below 4 holds no controller, and nothing is under way there
+absent-octet : (s : Octets) (i : ℕ) → i < 4 → presentAt s i ≡ false → eqb (getD (part s (base i) 4028) 0 0) 1 ≡ false
+unfolding presentAt
+absent-octet s i l e = rw (first-octet s i) (rw (lt-ltb i 4 l) at e)
+
+pub absent-slot : (s : Octets) (i : ℕ) → i < 4 → presentAt s i ≡ false → getD (decode s .plain .controllers) i none ≡ none
+absent-slot s i l e = block-controller s i l ∙ controller-none (part s (base i) 4028) (absent-octet s i l e)
+
+pub absent-open : (s : Octets) (i : ℕ) → i < 4 → presentAt s i ≡ false → openAt s i ≡ none
+absent-open s i l e = block-open s i l ∙ open-none (part s (base i) 4028) (absent-octet s i l e)
+
+pub absent-controller : (s : Octets) (i : ℕ) → presentAt s i ≡ false → controllerAt (decode s .plain) i ≡ none
+unfolding controllerAt
+absent-controller s i e = go (ltb i 4) refl
+  where
+    go : (b : Bool) → ltb i 4 ≡ b → _≡_ {A = Option Controller} (elim b [ true ↦ getD (decode s .plain .controllers) i none | false ↦ none ]) none
+    go false t = refl
+    go true t = absent-slot s i (ltb-true i 4 t) e
+
+-- 3. The parts of a controller ----------------------------------------------------------------------------------------------------------------
+
+-- octets, parts and numbers of a controller, in the block and in the state
+octet-at : (s : Octets) (b k : ℕ) → k < 4022 → getD (drop 6 (part s b 4028)) k 0 ≡ getD s (b + (6 + k)) 0
+octet-at s b k h = getD-drop 6 (part s b 4028) k 0 ∙ getD-part s b 4028 (6 + k) (omega arith)
+
+part-at : (s : Octets) (b k n : ℕ) → 6 + k + n ≤ 4028 → take n (drop k (drop 6 (part s b 4028))) ≡ part s (b + (6 + k)) n
+unfolding part
+part-at s b k n h = rw (drop-drop k 6 (part s b 4028)) (part-part s b 4028 (6 + k) n h)
+
+u16-at : (s : Octets) (b k : ℕ) → k < 4021 → u16 (drop 6 (part s b 4028)) k ≡ u16 s (b + (6 + k))
+unfolding u16
+u16-at s b k h =
+    let e : b + (6 + (k + 1)) ≡ b + (6 + k) + 1 = omega arith in
+    rw (octet-at s b k (omega arith), octet-at s b (k + 1) (omega arith), e)
+
+u32-at : (s : Octets) (b k : ℕ) → k < 4019 → u32 (drop 6 (part s b 4028)) k ≡ u32 s (b + (6 + k))
+unfolding u32
+u32-at s b k h =
+    let e : b + (6 + (k + 2)) ≡ b + (6 + k) + 2 = omega arith in
+    rw (u16-at s b k (omega arith), u16-at s b (k + 2) (omega arith), e)
+
+-- the hardware of the block that begins at b
+unfoldable pub hardwareFrom : Octets → ℕ → Hardware
+hardwareFrom s b = record { publicAddress = part s (b + 13) 6; version = getD s (b + 6) 0; manufacturer = u16 s (b + 7); supported = u32 s (b + 9) }
+
+pub hardware-at : (s : Octets) (i : ℕ) → hardwareFrom s (base i) ≡ controllerOf s i .radio .hardware
+unfolding hardwareFrom controllerOf controllerBack
+hardware-at s i =
+    let b = base i in
+    rw (part-at s b 7 6 (lit≤ tt), octet-at s b 0 (lit< tt), u16-at s b 1 (lit< tt), u32-at s b 3 (lit< tt))
+
+-- the settings of the block that begins at b, with the hardware f
+unfoldable pub settingsFrom : Octets → ℕ → Hardware → Settings
+settingsFrom s b f = record {
+  radio = record {
+    hardware = f;
+    powered = eqb (getD s (b + 19) 0) 1;
+    connectable = eqb (getD s (b + 20) 0) 1;
+    lowEnergy = eqb (getD s (b + 23) 0) 1;
+    staticAddress = part s (b + 26) 6;
+  };
+  host = record { timer = record { discoverable = eqb (getD s (b + 21) 0) 1; seconds = u16 s (b + 24) }; bondable = eqb (getD s (b + 22) 0) 1 };
+}
+
+pub settings-at : (s : Octets) (i : ℕ) → settingsFrom s (base i) (controllerOf s i .radio .hardware) ≡ settingsOf (controllerOf s i)
+unfolding settingsFrom settingsOf controllerOf controllerBack
+settings-at s i =
+    let b = base i in
+    rw (
+      octet-at s b 13 (lit< tt),
+      octet-at s b 14 (lit< tt),
+      octet-at s b 17 (lit< tt),
+      part-at s b 20 6 (lit≤ tt),
+      octet-at s b 15 (lit< tt),
+      u16-at s b 18 (lit< tt),
+      octet-at s b 16 (lit< tt),
+    )
+
+-- the name, where it lies
+pub name-at : (s : Octets) (i : ℕ) → part s (placeOf i 4) 260 ≡ controllerOf s i .host .name
+unfolding placeOf placeAt sizes controllerOf controllerBack
+name-at s i = sym (part-at s (base i) 26 260 (lit≤ tt))
+
+-- the clock, at the start
+pub clock-at : (s : Octets) → u32 s 0 ≡ decode s .plain .clock
+unfolding decode
+clock-at s = refl

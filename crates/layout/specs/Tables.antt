@@ -1,0 +1,180 @@
+-- The six tables of a present controller, where they lie: each region read and stored whole.
+use mathlib.Core.Path.{_≡_, refl, ap, sym, _∙_}
+use Prim.Native.Nat.{ℕ, zero, suc, _+_, _*_, _-_, _≤_, _<_}
+use native.Mathlib.Omega.{arith}
+use native.Mathlib.Nat.{add-zero, mul-suc, mul-zero}
+use mathlib.Core.Bool.{Bool, true, false, _&&_}
+use mathlib.Core.List.{List, [], _∷_, _++_, append-nil}
+use mathlib.Core.Option.{Option, none, some}
+use lib.ListN.{length, getD, take, drop, set, replicate, length-append, length-replicate}
+use lib.Seq.{drop-drop, take-take}
+use lib.Dec.{eqb}
+use Rattle.model.specs.declared.Hardware.{Hardware}
+use Rattle.model.specs.Octets.{Octets, le32, u16, u32}
+use Rattle.model.specs.State.{Controller, Table, settingsOf, tableOf, withHost, withTable}
+use Rattle.model.specs.Reasons.{passes}
+use Rattle.model.specs.Tables.{TableRule, blockedRule, chop, deviceRule, entries, every, identityKeyRule, linkKeyRule, longTermKeyRule, recordOk, tableRules, uuidRule}
+use Rattle.model.specs.WellFormed.{tableOk, tablesOk}
+use Rattle.model.specs.Layout.{decode, encode, region, slotOctets, slots, tableBack}
+use Rattle.model.specs.Proof.Decode.{length-region, table-back}
+use Rattle.model.specs.Proof.Region.{Sized}
+use Rattle.model.specs.Proof.Rows.{controller-fit, ruleAt, table-ok}
+use Rattle.model.specs.Proof.Tables.{table-fit}
+use Rattle.model.specs.Proof.Tests.{and-true, equal, no-way}
+use Rattle.octets.specs.Parts.{drop-take, getD-part, part, placeAt, writeAt}
+use Rattle.layout.specs.Places.{Ready, base, controllerOf, openAt, placeOf, putController, sizes, tablePlace}
+use Rattle.table.specs.Slots.{tableAt}
+use Rattle.layout.specs.Lens.{inside, pieces, regionPieces}
+use Rattle.layout.specs.Change.{controller-changed, controller-fine, piece-at}
+
+-- 1. A table's octets, from the whole or from its region ----------------------------------------------------------------------------------------
+
+-- records cut from octets, and from just those that they need
+chop-take : (size n : ℕ) (o : Octets) → chop size n (take (size * n) o) ≡ chop size n o
+unfolding chop
+chop-take size zero o = refl
+chop-take size (suc n) o =
+    let e : size * suc n ≡ size + size * n = mul-suc size n ∙ omega arith in
+    rw (e, take-take size (size + size * n) o (omega arith), drop-take size (size * n) o, chop-take size n (drop size o))
+
+-- numbers in a part
+u16-part : (s : Octets) (b m k : ℕ) → k + 1 < m → u16 (part s b m) k ≡ u16 s (b + k)
+unfolding u16
+u16-part s b m k h =
+    let e : b + (k + 1) ≡ b + k + 1 = omega arith in
+    rw (getD-part s b m k (omega arith), getD-part s b m (k + 1) h, e)
+
+u32-part : (s : Octets) (b m : ℕ) → 4 ≤ m → u32 (part s b m) 0 ≡ u32 s b
+unfolding u32
+u32-part s b m h = rw (u16-part s b m 0 (omega arith), u16-part s b m 2 (omega arith), add-zero)
+
+-- the slots behind the word
+behind-word : (s : Octets) (p m : ℕ) → drop 4 (part s p (4 + m)) ≡ take m (drop (p + 4) s)
+unfolding part
+behind-word s p m = drop-take 4 m (drop p s) ∙ rw (drop-drop 4 p s)
+
+-- the table at a place is that of its region
+pub table-part : (s : Octets) (p size : ℕ) → tableAt s p size ≡ tableBack size (part s p (4 + size * 32))
+unfolding tableAt tableBack
+table-part s p size =
+    let d : drop 4 (part s p (4 + size * 32)) ≡ take (size * 32) (drop (p + 4) s) = behind-word s p (size * 32) in
+    rw (u32-part s p (4 + size * 32) (omega arith), d, chop-take size 32 (drop (p + 4) s))
+
+-- 2. The regions among the pieces ---------------------------------------------------------------------------------------------------------------
+
+-- the region of table k
+region-get : (f : Hardware) (us : List TableRule) (ts : List Table) (k : ℕ) → tablesOk f us ts ≡ true → k < length us
+    → getD (regionPieces us ts) k [] ≡ region (getD us k uuidRule .size) (getD ts k [])
+unfolding tablesOk regionPieces
+region-get f [] ts k e l = absurd (omega arith)
+region-get f (u ∷ us) [] k e l = no-way (sym e)
+region-get f (u ∷ us) (t ∷ ts) zero e l = refl
+region-get f (u ∷ us) (t ∷ ts) (suc k) e l = region-get f us ts k (and-true (tableOk u f t) _ e .1) (omega arith)
+
+-- another region is another table
+region-set : (f : Hardware) (us : List TableRule) (ts : List Table) (k : ℕ) (t : Table) → tablesOk f us ts ≡ true
+    → set (regionPieces us ts) k (region (getD us k uuidRule .size) t) ≡ regionPieces us (set ts k t)
+unfolding tablesOk regionPieces
+region-set f [] ts k t e = refl
+region-set f (u ∷ us) [] k t e = refl
+region-set f (u ∷ us) (x ∷ ts) zero t e = refl
+region-set f (u ∷ us) (x ∷ ts) (suc k) t e = ap {B = List Octets} (λ l. region (u .size) x ∷ l) (region-set f us ts k t (and-true (tableOk u f x) _ e .1))
+
+-- table k is piece 5 + k
+abbrev pub past5 : ℕ → ℕ
+past5 k = suc (suc (suc (suc (suc k))))
+
+five : (k : ℕ) → 5 + k ≡ past5 k
+five k = omega arith
+
+rules-six : length tableRules ≡ 6
+unfolding tableRules
+rules-six = refl
+
+-- its size
+size-at : (k : ℕ) → k < 6 → getD sizes (past5 k) 0 ≡ 4 + ruleAt k .size * 32
+unfolding sizes ruleAt tableRules uuidRule linkKeyRule longTermKeyRule identityKeyRule blockedRule deviceRule
+size-at zero l = refl
+size-at (suc zero) l = refl
+size-at (suc (suc zero)) l = refl
+size-at (suc (suc (suc zero))) l = refl
+size-at (suc (suc (suc (suc zero)))) l = refl
+size-at (suc (suc (suc (suc (suc zero))))) l = refl
+size-at (suc (suc (suc (suc (suc (suc k)))))) l = absurd (omega arith)
+
+-- it lies inside the state
+pub table-fits : (i k : ℕ) → i < 4 → k < 6 → tablePlace i k + (4 + ruleAt k .size * 32) ≤ 16116
+unfolding tablePlace placeOf
+table-fits i k l m =
+    let n : getD sizes (past5 k) 0 ≡ 4 + ruleAt k .size * 32 = size-at k m in
+    let p : placeAt sizes (past5 k) + getD sizes (past5 k) 0 ≤ 4028 = inside (past5 k) in
+    rw (five k) (omega arith)
+
+-- records that all have the size, from the model's test and for a region's length
+every-sized : (size : ℕ) (g : Octets → Bool) (t : Table) → every (λ r. eqb (length r) size && g r) (entries t) ≡ true → Sized size t
+unfolding Sized slotOctets entries every
+every-sized size g [] e = tt
+every-sized size g (none ∷ t) e = (length-replicate {A = ℕ} size 0, every-sized size g t e)
+every-sized size g (some r ∷ t) e =
+    let a = and-true (eqb (length r) size && g r) _ e in
+    (equal (length r) size (and-true (eqb (length r) size) _ (a .0) .0), every-sized size g t (a .1))
+
+sized-slots : (size : ℕ) (t : Table) → Sized size t → length (slots size t) ≡ size * length t
+unfolding Sized slots
+sized-slots size [] z = sym (mul-zero size)
+sized-slots size (x ∷ t) z = length-append (slotOctets size x) (slots size t) ∙ omega (arith, z .0, sized-slots size t (z .1), mul-suc size (length t))
+
+pub sized-region : (size : ℕ) (t : Table) → length t ≡ 32 → Sized size t → length (region size t) ≡ 4 + size * 32
+unfolding region le32
+sized-region size t n z =
+    let e : length (slots size t) ≡ size * 32 = sized-slots size t z ∙ rw n in
+    omega arith
+
+-- 3. The tables of a present controller ---------------------------------------------------------------------------------------------------------
+
+module _ (s : Octets) (i : ℕ) (r : Ready s i) (k : ℕ) (l : k < 6) where
+  tables-fine : tablesOk (controllerOf s i .radio .hardware) tableRules (controllerOf s i .host .tables) ≡ true
+  tables-fine = controller-fit (controllerOf s i) (controller-fine s i r) .tables
+
+  -- it is valid: 32 slots, and every record has the size
+  pub table-fine : tableOk (ruleAt k) (controllerOf s i .radio .hardware) (tableOf (controllerOf s i .host) k) ≡ true
+  table-fine = table-ok (controllerOf s i) k (controller-fine s i r) l
+
+  pub table-long : length (tableOf (controllerOf s i .host) k) ≡ 32
+  table-long = table-fit (ruleAt k) (controllerOf s i .radio .hardware) (tableOf (controllerOf s i .host) k) table-fine .slots
+
+  pub table-sized : Sized (ruleAt k .size) (tableOf (controllerOf s i .host) k)
+  unfolding recordOk
+  table-sized =
+      every-sized (ruleAt k .size) (λ x. passes (ruleAt k .checks x)) (tableOf (controllerOf s i .host) k)
+      (table-fit (ruleAt k) (controllerOf s i .radio .hardware) (tableOf (controllerOf s i .host) k) table-fine .each)
+
+  region-here : getD (pieces (controllerOf s i) (openAt s i)) (past5 k) [] ≡ region (ruleAt k .size) (tableOf (controllerOf s i .host) k)
+  unfolding pieces ruleAt tableOf
+  region-here = region-get (controllerOf s i .radio .hardware) tableRules (controllerOf s i .host .tables) k tables-fine (rw rules-six l)
+
+  region-put : (t : Table)
+      → set (pieces (controllerOf s i) (openAt s i)) (past5 k) (region (ruleAt k .size) t) ≡ pieces (withHost (controllerOf s i) (withTable (controllerOf s i .host) k t)) (openAt s i)
+  unfolding pieces ruleAt withHost withTable settingsOf
+  region-put t = rw (region-set (controllerOf s i .radio .hardware) tableRules (controllerOf s i .host .tables) k t tables-fine)
+
+  -- its octets are canonical: the region of the table that they mean
+  pub region-at : part s (tablePlace i k) (4 + ruleAt k .size * 32) ≡ region (ruleAt k .size) (tableOf (controllerOf s i .host) k)
+  unfolding tablePlace
+  region-at = rw (five k) (piece-at s i r (past5 k) (4 + ruleAt k .size * 32) (sym (size-at k l)) ∙ region-here)
+
+  -- what lies there is the controller's table
+  pub table-at : tableAt s (tablePlace i k) (ruleAt k .size) ≡ tableOf (controllerOf s i .host) k
+  table-at =
+      let size = ruleAt k .size in
+      let t = tableOf (controllerOf s i .host) k in
+      let b : tableBack size (region size t ++ []) ≡ t = table-back (ruleAt k) (controllerOf s i .radio .hardware) t [] table-fine in
+      table-part s (tablePlace i k) size ∙ rw region-at (rw append-nil at b)
+
+  -- a region stored there is another table
+  pub table-stored : (t : Table) → length t ≡ 32 → Sized (ruleAt k .size) t
+      → writeAt s (tablePlace i k) (region (ruleAt k .size) t) ≡ encode (putController (decode s) i (withHost (controllerOf s i) (withTable (controllerOf s i .host) k t)))
+  unfolding tablePlace
+  table-stored t n z =
+      let d = withHost (controllerOf s i) (withTable (controllerOf s i .host) k t) in
+      rw (five k) (controller-changed s i r (past5 k) (region (ruleAt k .size) t) d (omega arith) (sized-region (ruleAt k .size) t n z ∙ sym (size-at k l)) (region-put t))

@@ -1,0 +1,168 @@
+-- The ways a command's function ends, each as one law over plain variables: from what its callees ensure to the contract that it states.
+use Prim.Native.Nat.{ℕ, zero, suc, _+_, _≤_, _<_}
+use native.Mathlib.Omega.{arith}
+use mathlib.Core.Path.{_≡_, refl, sym, ap, _∙_}
+use mathlib.Core.Bool.{Bool, true, false}
+use mathlib.Core.List.{List, [], _∷_, _++_}
+use mathlib.Core.Option.{Option, none, some}
+use lib.ListN.{length, take, drop, length-take, length-append}
+use lib.Dec.{eqb}
+use Rattle.model.specs.Octets.{Octets, event, commandComplete, commandStatus, le16, le32}
+use Rattle.model.specs.State.{Controller, Host, PlainHub, OpenCommand, Hub, withController, withHost, currentSettings, settingsOf}
+use Rattle.model.specs.Reasons.{Reason, statusOf, firstOf, lengthWrong}
+use Rattle.model.specs.Rules.{Immediate, refuse, done, ImmediateRule, RadioRule, newSettings}
+use Rattle.model.specs.Hub.{Outcome, finished, refused, badPacket, noRoom, badArgument, Verdict, anyway, unlessBusy, Result, keep, withOpen, answerOf, octetsOf, stateOf, refusalOctets, byStatus, refusalForm, immediateAt, immediateDone, radioAt, radioBeforeBusy, radioAfterBusy, acted}
+use Rattle.model.specs.Layout.{encode, decode}
+use Rattle.model.specs.Meanings.{stateOk, laidOut}
+use Rattle.model.specs.Proof.Demand3.{state-back}
+use Rattle.octets.specs.Parts.{writeAt, write-front}
+use Rattle.layout.specs.Places.{Ready, controllerOf, openAt, putController}
+use Rattle.replies.specs.Answers.{Gives, numberOf, countOf}
+use Rattle.replies.specs.declared.Answer.{Answer}
+use Rattle.replies.specs.declared.Answer.the-variants.{Done, Started, Refused, BadPacket, SmallBuffer, BadState, BadArgument, BadImage}
+use Rattle.outcomes.specs.Outcomes.{ended, served, judged, contended}
+
+-- 1. Lengths ----------------------------------------------------------------------------------------------------------------------------------
+
+pub length-status : (i code status : ℕ) → length (commandStatus i code status) ≡ 9
+unfolding commandStatus event le16
+length-status i code status = refl
+
+pub length-complete : (i code status : ℕ) (ps : Octets) → length (commandComplete i code status ps) ≡ 9 + length ps
+unfolding commandComplete event le16
+length-complete i code status ps = omega arith
+
+-- 2. Any outcome ------------------------------------------------------------------------------------------------------------------------------
+
+-- nothing is written, nothing changes
+pub ends-silent : (s d : Octets) (o : Outcome) (r : Answer) → stateOk s ≡ true → octetsOf o ≡ [] → stateOf (decode s .plain) o ≡ decode s .plain → numberOf r ≡ answerOf o → countOf r ≡ 0
+    → Gives (ended s o) r d d s
+unfolding ended laidOut keep
+ends-silent s d o r ok e k n c = record { answer = n; count = rw e c; reply = rw e; state = state-back s ok ∙ rw k }
+
+-- a refusal: the reply is written, the state is as it was
+pub ends-refused : (s : Octets) (i code : ℕ) (x : Reason) (d d′ : Octets) (r : Answer) → stateOk s ≡ true → 1024 ≤ length d → r ≡ Refused 9
+    → d′ ≡ writeAt d 0 (commandStatus i code (statusOf x)) → Gives (ended s (refused (byStatus i code) x)) r d d′ s
+unfolding ended laidOut keep answerOf octetsOf stateOf refusalOctets byStatus
+ends-refused s i code x d d′ r ok big n w =
+    let l = length-status i code (statusOf x) in
+    rw n (record { answer = refl; count = sym l; reply = w ∙ write-front d (commandStatus i code (statusOf x)) (omega arith); state = state-back s ok })
+
+-- done: the octets are written, and the state is the new one's
+pub ends-done : (s out : Octets) (p : PlainHub) (n : ℕ) (d d′ s′ : Octets) (r : Answer) → r ≡ Done n → length out ≡ n → n ≤ length d
+    → d′ ≡ writeAt d 0 out → s′ ≡ encode (record { plain = p; openCommands = decode s .openCommands }) → Gives (ended s (finished out p)) r d d′ s′
+unfolding ended laidOut keep answerOf octetsOf stateOf
+ends-done s out p n d d′ s′ r m e l w k = rw m (record { answer = refl; count = sym e; reply = w ∙ write-front d out (omega arith); state = k })
+
+-- 3. Commands that are never Busy ---------------------------------------------------------------------------------------------------------------
+
+at-good : (p : PlainHub) (i code : ℕ) (ps : Octets) (q : ImmediateRule) (c : Controller) → q .size ps ≡ true
+    → immediateAt p i code ps q (some c) ≡ immediateDone p i code ps (q .byAddress) c (q .act i c ps)
+unfolding immediateAt
+at-good p i code ps q c e = rw (e, immediateAt)
+
+at-length : (p : PlainHub) (i code : ℕ) (ps : Octets) (q : ImmediateRule) (c : Controller) → q .size ps ≡ false
+    → immediateAt p i code ps q (some c) ≡ refused (byStatus i code) lengthWrong
+unfolding immediateAt
+at-length p i code ps q c e = rw (e, immediateAt)
+
+length-take7 : (ps : Octets) → 7 ≤ length ps → length (take 7 ps) ≡ 7
+length-take7 ps h = simp length-take (omega arith)
+
+module _ (s : Octets) (i code : ℕ) (ps : Octets) (q : ImmediateRule) (d d′ : Octets) (r : Answer) (given : Ready s i) (big : 1024 ≤ length d) where
+  -- the parameters have another length
+  pub served-length : q .size ps ≡ false → r ≡ Refused 9 → d′ ≡ writeAt d 0 (commandStatus i code 0x0D) → Gives (served s i code ps q) r d d′ s
+  unfolding served statusOf
+  served-length e n w = rw (at-length (decode s .plain) i code ps q (controllerOf s i) e) (ends-refused s i code lengthWrong d d′ r (given .ok) big n w)
+
+  -- refused by Command Status
+  pub served-status : q .size ps ≡ true → (x : Reason) → q .byAddress ≡ false → q .act i (controllerOf s i) ps ≡ refuse x → r ≡ Refused 9
+      → d′ ≡ writeAt d 0 (commandStatus i code (statusOf x)) → Gives (served s i code ps q) r d d′ s
+  unfolding served immediateDone refusalForm
+  served-status z x a e n w = rw (at-good (decode s .plain) i code ps q (controllerOf s i) z, a, e) (ends-refused s i code x d d′ r (given .ok) big n w)
+
+  -- refused by Command Complete with the address and type
+  pub served-address : q .size ps ≡ true → (x : Reason) → q .byAddress ≡ true → 7 ≤ length ps → q .act i (controllerOf s i) ps ≡ refuse x → r ≡ Refused 16
+      → d′ ≡ writeAt d 0 (commandComplete i code (statusOf x) (take 7 ps)) → Gives (served s i code ps q) r d d′ s
+  unfolding served immediateDone refusalForm ended laidOut keep answerOf octetsOf stateOf refusalOctets
+  served-address z x a seven e n w =
+      let l : length (commandComplete i code (statusOf x) (take 7 ps)) ≡ 16 = length-complete i code (statusOf x) (take 7 ps) ∙ rw (length-take7 ps seven) in
+      rw (at-good (decode s .plain) i code ps q (controllerOf s i) z, a, e, n)
+      (record { answer = refl; count = sym l; reply = w ∙ write-front d (commandComplete i code (statusOf x) (take 7 ps)) (omega arith); state = state-back s (given .ok) })
+
+  -- done
+  pub served-done : q .size ps ≡ true → (s′ out evs : Octets) (h : Host) (n : ℕ) → q .act i (controllerOf s i) ps ≡ done out evs h → r ≡ Done n
+      → length (commandComplete i code 0 out ++ evs) ≡ n → n ≤ 1024 → d′ ≡ writeAt d 0 (commandComplete i code 0 out ++ evs)
+      → s′ ≡ encode (putController (decode s) i (withHost (controllerOf s i) h)) → Gives (served s i code ps q) r d d′ s′
+  unfolding served immediateDone putController
+  served-done z s′ out evs h n e m l f w k =
+      rw (at-good (decode s .plain) i code ps q (controllerOf s i) z, e)
+      (ends-done s (commandComplete i code 0 out ++ evs) (withController (decode s .plain) i (some (withHost (controllerOf s i) h))) n d d′ s′ r m l (omega arith) w k)
+
+-- 4. Settings commands that can be Busy ---------------------------------------------------------------------------------------------------------
+
+radio-length : (p : PlainHub) (i code : ℕ) (ps : Octets) (r : RadioRule) (c : Controller) → eqb (length ps) (r .size) ≡ false
+    → radioAt p i code ps r (some c) ≡ anyway (refused (byStatus i code) lengthWrong)
+unfolding radioAt
+radio-length p i code ps r c e = rw (e, radioAt)
+
+radio-good : (p : PlainHub) (i code : ℕ) (ps : Octets) (r : RadioRule) (c : Controller) → eqb (length ps) (r .size) ≡ true
+    → radioAt p i code ps r (some c) ≡ radioBeforeBusy p i code ps r c (firstOf (r .beforeBusy (c .radio) ps))
+unfolding radioAt
+radio-good p i code ps r c e = rw (e, radioAt)
+
+module _ (s : Octets) (i code : ℕ) (ps : Octets) (u : RadioRule) (d d′ : Octets) (r : Answer) (given : Ready s i) (big : 1024 ≤ length d) where
+  abbrev here : Controller
+  here = controllerOf s i
+
+  -- the parameters have another length
+  pub contended-length : eqb (length ps) (u .size) ≡ false → r ≡ Refused 9 → d′ ≡ writeAt d 0 (commandStatus i code 0x0D) → Gives (contended s i code ps u) r d d′ s
+  unfolding contended judged statusOf ended
+  contended-length e n w = rw (radio-length (decode s .plain) i code ps u (controllerOf s i) e) (ends-refused s i code lengthWrong d d′ r (given .ok) big n w)
+
+  -- refused before Busy
+  pub contended-early : eqb (length ps) (u .size) ≡ true → (x : Reason) → firstOf (u .beforeBusy (here .radio) ps) ≡ some x → r ≡ Refused 9
+      → d′ ≡ writeAt d 0 (commandStatus i code (statusOf x)) → Gives (contended s i code ps u) r d d′ s
+  unfolding contended judged radioBeforeBusy ended
+  contended-early z x e n w =
+      rw (radio-good (decode s .plain) i code ps u (controllerOf s i) z, e) (ends-refused s i code x d d′ r (given .ok) big n w)
+
+  -- Busy
+  pub contended-busy : eqb (length ps) (u .size) ≡ true → firstOf (u .beforeBusy (here .radio) ps) ≡ none → (o : OpenCommand) → openAt s i ≡ some o → r ≡ Refused 9
+      → d′ ≡ writeAt d 0 (commandStatus i code 0x0A) → Gives (contended s i code ps u) r d d′ s
+  unfolding contended radioBeforeBusy radioAfterBusy judged laidOut
+  contended-busy z e o eo n w = rw (radio-good (decode s .plain) i code ps u (controllerOf s i) z, e, eo) (go (firstOf (u .afterBusy (here .radio) ps)))
+    where
+      busy : Gives (record { answer = 2; octets = commandStatus i code 0x0A; state = encode (decode s) }) r d d′ s
+      busy =
+          let l = length-status i code 0x0A in
+          rw n (record { answer = refl; count = sym l; reply = w ∙ write-front d (commandStatus i code 0x0A) (omega arith); state = state-back s (given .ok) })
+
+      go : (y : Option Reason) → Gives (laidOut (judged (decode s) i code ps (radioAfterBusy (decode s .plain) i code ps u here y) (some o))) r d d′ s
+      go none = busy
+      go (some y) = busy
+
+  -- Rejected
+  pub contended-late : eqb (length ps) (u .size) ≡ true → firstOf (u .beforeBusy (here .radio) ps) ≡ none → openAt s i ≡ none → (x : Reason)
+      → firstOf (u .afterBusy (here .radio) ps) ≡ some x → r ≡ Refused 9 → d′ ≡ writeAt d 0 (commandStatus i code (statusOf x)) → Gives (contended s i code ps u) r d d′ s
+  unfolding contended judged radioBeforeBusy radioAfterBusy ended
+  contended-late z e eo x f n w =
+      rw (radio-good (decode s .plain) i code ps u (controllerOf s i) z, e, f, eo) (ends-refused s i code x d d′ r (given .ok) big n w)
+
+  -- started: nothing is written, and the command is kept
+  pub contended-started : eqb (length ps) (u .size) ≡ true → firstOf (u .beforeBusy (here .radio) ps) ≡ none → openAt s i ≡ none
+      → firstOf (u .afterBusy (here .radio) ps) ≡ none → u .waits (here .radio) ps ≡ true → r ≡ Started → (s′ : Octets)
+      → s′ ≡ encode (withOpen (decode s) i (some (record { code = code; params = ps }))) → d′ ≡ d → Gives (contended s i code ps u) r d d′ s′
+  unfolding contended judged radioBeforeBusy radioAfterBusy laidOut
+  contended-started z e eo f w n s′ k t =
+      rw (radio-good (decode s .plain) i code ps u (controllerOf s i) z, e, f, eo, w, n) (record { answer = refl; count = refl; reply = t; state = k })
+
+  -- done at once
+  pub contended-done : eqb (length ps) (u .size) ≡ true → firstOf (u .beforeBusy (here .radio) ps) ≡ none → openAt s i ≡ none
+      → firstOf (u .afterBusy (here .radio) ps) ≡ none → u .waits (here .radio) ps ≡ false → (s′ out : Octets) (n : ℕ) → r ≡ Done n
+      → out ≡ commandComplete i code 0 (le32 (currentSettings (settingsOf (u .effect here ps)))) ++ newSettings i here (u .effect here ps)
+      → length out ≡ n → n ≤ 1024 → d′ ≡ writeAt d 0 out → s′ ≡ encode (putController (decode s) i (u .effect here ps)) → Gives (contended s i code ps u) r d d′ s′
+  unfolding contended judged radioBeforeBusy radioAfterBusy acted putController ended
+  contended-done z e eo f w s′ out n m eq l b wr k =
+      rw (radio-good (decode s .plain) i code ps u (controllerOf s i) z, e, f, eo, w)
+      (rw eq at (ends-done s out (withController (decode s .plain) i (some (u .effect here ps))) n d d′ s′ r m l (omega arith) wr k))
