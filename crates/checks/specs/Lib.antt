@@ -3,3 +3,5 @@ pub mod Blocks
 pub mod Slots
 pub mod Tables
 pub mod Open
+pub mod Settings
+pub mod Present

@@ -68,7 +68,7 @@ total [] = 0
 total (u ∷ us) = 4 + u .size * 32 + total us
 
 -- numbers in a part
-u16-part : (s : Octets) (b m k : ℕ) → k + 1 < m → u16 (part s b m) k ≡ u16 s (b + k)
+pub u16-part : (s : Octets) (b m k : ℕ) → k + 1 < m → u16 (part s b m) k ≡ u16 s (b + k)
 unfolding u16
 u16-part s b m k h =
     let e : b + (k + 1) ≡ b + k + 1 = omega arith in

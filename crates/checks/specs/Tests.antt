@@ -12,7 +12,7 @@ use lib.Pow.{low, high}
 use borrow.Author.Tests.{lt-ltb}
 use Rattle.model.specs.Octets.{Octets, allZero, bytes, le16, le32, same, u16, u32}
 use Rattle.model.specs.Proof.Tests.{and-true, both, no-way}
-use Rattle.model.specs.Proof.Tables.{byte-at}
+use Rattle.model.specs.Proof.Tables.{byte-at, bytes-drop, bytes-take}
 use Rattle.octets.specs.Parts.{part}
 
 -- two tests that follow from each other are one
@@ -20,6 +20,14 @@ pub one-test : (a b : Bool) → (a ≡ true → b ≡ true) → (b ≡ true → 
 one-test true b f g = sym (f refl)
 one-test false true f g = g refl
 one-test false false f g = refl
+
+pub and-on : (a : Bool) → a && true ≡ a
+and-on true = refl
+and-on false = refl
+
+pub and-off : (a : Bool) → a && false ≡ false
+and-off true = refl
+and-off false = refl
 
 -- octets below 256, from what a slice is known to hold
 pub bytes-of : (o : Octets) → ((k : ℕ) → getD o k 0 < 256) → bytes o ≡ true
@@ -51,6 +59,11 @@ same-zeros (x ∷ o) (suc n) e = rw (same-zeros o n (omega arith))
 pub part-add : (s : Octets) (at m n : ℕ) → part s at (m + n) ≡ part s at m ++ part s (at + m) n
 unfolding part
 part-add s at m n = rw (take-add m n (drop at s), drop-drop m at s)
+
+-- a part of octets
+pub part-bytes : (s : Octets) (at n : ℕ) → bytes s ≡ true → bytes (part s at n) ≡ true
+unfolding part
+part-bytes s at n w = bytes-take n (drop at s) (bytes-drop at s w)
 
 -- numbers read from octets, and laid out again
 pub u16-lt : (o : Octets) (k : ℕ) → bytes o ≡ true → u16 o k < 65536
