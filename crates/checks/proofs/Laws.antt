@@ -10,26 +10,29 @@ use mathlib.Core.Option.{Option, none, some}
 use lib.ListN.{length, getD, take, drop, drop-of-length-le}
 use lib.Seq.{drop-cons, take-take}
 use lib.Bits.{bitAnd, bitOr, and-le-l, and-le-r, or-add-and, or-zero-l}
-use lib.Dec.{eqb, leb}
+use lib.Dec.{eqb, leb, ltb}
 use borrow.Author.Tests.{eq-eqb, ne-eqb, eqb-true, eqb-false, le-leb, lt-leb, le-ltb, lt-ltb}
 use Rattle.model.specs.declared.Hardware.{Hardware}
 use Rattle.model.specs.declared.RadioSettings.{RadioSettings}
+use Rattle.model.specs.declared.Settings.{Settings}
 use Rattle.model.specs.Octets.{Octets, allZero, octet, u16, u32}
-use Rattle.model.specs.State.{nameEnds, shortNameEnds}
+use Rattle.model.specs.State.{nameEnds, settingsOf, shortNameEnds}
 use Rattle.model.specs.Reasons.{passes}
 use Rattle.model.specs.Tables.{TableRule, chop, distinct, empty, entries, every, recordsOk, supportOk, tableRules, uuidRule}
-use Rattle.model.specs.Image.{nameOk}
+use Rattle.model.specs.Image.{nameOk, radioOk}
 use Rattle.model.specs.Layout.{slotsBack}
 use Rattle.model.specs.Proof.Rows.{ruleAt}
-use Rattle.model.specs.Proof.Tests.{or-true}
+use Rattle.model.specs.Proof.Tests.{and-true, or-true}
 use Rattle.model.specs.Rules.{setConnectable, setDiscoverable, setLowEnergy, setPowered}
-use Rattle.layout.specs.Places.{base, controllerOf, placeOf, sizes}
+use Rattle.layout.specs.Places.{base, controllerOf, placeOf, presentAt, sizes}
 use Rattle.layout.specs.Reads.{name-at}
 use Rattle.octets.specs.Parts.{getD-part, length-part, part, placeAt}
 use Rattle.octets.proofs.Laws.{part-suc}
 use Rattle.rules.specs.declared.Decision.{Decision}
-use Rattle.rules.specs.Decisions.{decision, isWait}
+use Rattle.rules.specs.Decisions.{decision, isWait, settingsOk}
 use Rattle.checks.specs.Tests.{and-off, and-on}
+use Rattle.checks.specs.Settings.{flagsFine}
+use Rattle.checks.specs.Present.{blockAt, presentFine}
 use Rattle.checks.specs.Slots.{freeZero, zero-rest}
 use Rattle.checks.specs.Tables.{drop-part, tableFine, tablesFine, total}
 use Rattle.records.specs.Slots.{no-slots, recordsAt}
@@ -233,3 +236,30 @@ module _ (s : Octets) (at k : ℕ) (l : k < 6) where
 pub tables-end : (f : Hardware) (s : Octets) (at k : ℕ) → 6 ≤ k → true ≡ tablesFine f (drop k tableRules) s at
 unfolding tablesFine
 tables-end f s at k h = let e : drop k tableRules ≡ [] = drop-of-length-le tableRules {i = k} (rw rules-six h) in sym (rw e)
+
+-- 5. Blocks -----------------------------------------------------------------------------------------------------------------------------------
+
+-- the test of a present block, from its place and its settings
+pub fine-by : (s : Octets) (i b : ℕ) (m : Settings) → b ≡ base i → m ≡ settingsOf (controllerOf s i)
+    → presentFine s i
+    ≡ radioOk (m .radio)
+    && (settingsOk m
+    && (nameOk (controllerOf s i .host .name)
+    && (flagsFine s b
+    && (openFine (m .radio) (u16 s (b + 1)) (part s (b + 1 + 2) 3)
+    && tablesFine (m .radio .hardware) tableRules s (b + 292)))))
+unfolding presentFine settingsOf
+fine-by s i b m e f = rw (e, f)
+
+-- the first octet of a block says whether a controller is there
+pub present-one : (s : Octets) (i : ℕ) → presentAt s i ≡ true → getD s (base i) 0 ≡ 1
+unfolding presentAt
+present-one s i e = eqb-true (getD s (base i) 0) 1 (and-true (ltb i 4) _ e .1)
+
+pub absent-other : (s : Octets) (i : ℕ) → i < 4 → presentAt s i ≡ false → getD s (base i) 0 ≡ 1 → ⊥
+unfolding presentAt
+absent-other s i l e = eqb-false (getD s (base i) 0) 1 (rw (lt-ltb i 4 l) at e)
+
+-- zeros from the place of the block on
+pub blank-block : (s : Octets) (i b : ℕ) → b ≡ base i → allZero (part s b 4028) ≡ allZero (blockAt s i)
+blank-block s i b e = rw e

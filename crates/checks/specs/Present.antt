@@ -17,7 +17,8 @@ use Rattle.model.specs.State.{Controller, OpenCommand, settingsOf}
 use Rattle.model.specs.Tables.{blockedRule, deviceRule, identityKeyRule, linkKeyRule, longTermKeyRule, tableRules, uuidRule}
 use Rattle.model.specs.Image.{nameOk, radioOk}
 use Rattle.model.specs.WellFormed.{controllerOk, openOk, slotOk, tablesOk, timerOk, widthsOk}
-use Rattle.model.specs.Layout.{block, controllerBack, controllerIn, controllerPart, hardwarePart, openBack, openIn, openPart, openWith, regions, settingsPart, tablesBack}
+use Rattle.model.specs.Layout.{block, controllerBack, controllerIn, controllerPart, hardwarePart, openBack, openIn, openPart, openWith, regions, settingsPart, stateLength, tablesBack}
+use Rattle.model.specs.Meanings.{stateOk}
 use Rattle.model.specs.Proof.Rows.{fit-widths}
 use Rattle.model.specs.Proof.Layout.{length-open}
 use Rattle.model.specs.Proof.Tables.{byte-at, bytes-drop, bytes-take, same-refl}
@@ -28,8 +29,8 @@ use Rattle.layout.specs.Reads.{hardware-at, hardwareFrom, name-at, open-some, s
 use Rattle.rules.specs.Decisions.{settingsOk}
 use Rattle.rules.proofs.Ties.{timer-ok-is}
 use Rattle.checks.specs.Tests.{and-on, one-test, part-add, part-bytes, same-append, same-zeros, u16-lt}
-use Rattle.checks.specs.Blocks.{blockOk}
-use Rattle.checks.specs.Tables.{drop-part, tables-are, tablesFine, total, u16-part}
+use Rattle.checks.specs.Blocks.{blockOk, blocksOk, state-blocks}
+use Rattle.checks.specs.Tables.{drop-part, tables-are, tablesFine, total-six, u16-part}
 use Rattle.checks.specs.Open.{open-is, openFine}
 use Rattle.checks.specs.Settings.{flagsFine, hardware-same, one-octet, part-cut, settings-long, settings-same}
 
@@ -132,14 +133,10 @@ module _ (s : Octets) (i : ℕ) (w : bytes s ≡ true) (h : base i + 4028 ≤ le
       let f : base i + 6 + 286 ≡ base i + 292 = omega arith in
       rw (d, e, f)
 
-  total-is : total tableRules ≡ 3736
-  unfolding total tableRules uuidRule linkKeyRule longTermKeyRule identityKeyRule blockedRule deviceRule
-  total-is = refl
-
   -- they are well formed, and their octets the one encoding of them
   tables-fine : tablesOk (controllerOf s i .radio .hardware) tableRules (controllerOf s i .host .tables) && same (part s (base i + 292) 3736) (regions tableRules (controllerOf s i .host .tables))
       ≡ tablesFine (controllerOf s i .radio .hardware) tableRules s (base i + 292)
-  tables-fine = rw tables-here (rw total-is at (tables-are (controllerOf s i .radio .hardware) tableRules s (base i + 292) w (rw total-is (omega arith))))
+  tables-fine = rw tables-here (rw total-six at (tables-are (controllerOf s i .radio .hardware) tableRules s (base i + 292) w (rw total-six (omega arith))))
 
   name-place : placeOf i 4 ≡ base i + 32
   unfolding placeOf placeAt sizes
@@ -226,3 +223,15 @@ module _ (s : Octets) (i : ℕ) (w : bytes s ≡ true) (h : base i + 4028 ≤ le
       (gather (radioOk (c .radio)) (nameOk (c .host .name)) (tablesOk (c .radio .hardware) tableRules (c .host .tables)) (settingsOk (settingsOf c))
       (openOk (some c) o) (same (part s (base i + 1) 5) (openPart o)) (flagsFine s (base i)) (same (part s (base i + 292) 3736) (regions tableRules (c .host .tables)))
       ∙ rw (open-fine c, tables-fine)))
+
+-- 4. The whole state -----------------------------------------------------------------------------------------------------------------------------
+
+-- a state is well formed if it has the right length, and each of its four blocks is well formed
+pub state-is : (s : Octets) → bytes s ≡ true
+    → stateOk s ≡ eqb (length s) stateLength && (blockOk (blockAt s 0) && (blockOk (blockAt s 1) && (blockOk (blockAt s 2) && blockOk (blockAt s 3))))
+unfolding part blocksOk
+state-is s w =
+    let a : drop 4028 (drop 4 s) ≡ drop 4032 s = drop-drop 4028 4 s in
+    let b : drop 4028 (drop 4032 s) ≡ drop 8060 s = drop-drop 4028 4032 s in
+    let c : drop 4028 (drop 8060 s) ≡ drop 12088 s = drop-drop 4028 8060 s in
+    state-blocks s w ∙ rw (a, b, c, and-on (blockOk (take 4028 (drop 12088 s))))

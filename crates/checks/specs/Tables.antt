@@ -13,7 +13,7 @@ use borrow.Author.Tests.{eq-eqb}
 use Rattle.model.specs.declared.Hardware.{Hardware}
 use Rattle.model.specs.Octets.{Octets, bytes, same, u16, u32}
 use Rattle.model.specs.State.{Table}
-use Rattle.model.specs.Tables.{TableRule, chop, entries, every, recordsOk, supportOk}
+use Rattle.model.specs.Tables.{TableRule, blockedRule, chop, deviceRule, entries, every, identityKeyRule, linkKeyRule, longTermKeyRule, recordsOk, supportOk, tableRules, uuidRule}
 use Rattle.model.specs.WellFormed.{tableOk, tablesOk}
 use Rattle.model.specs.Layout.{region, regions, slotsBack, tableBack, tablesBack}
 use Rattle.model.specs.Proof.Tables.{bytes-chop, bytes-drop, same-refl}
@@ -66,6 +66,11 @@ tablesFine f (u ∷ us) s at = tableFine u f s at && tablesFine f us s (at + (4 
 unfoldable pub total : List TableRule → ℕ
 total [] = 0
 total (u ∷ us) = 4 + u .size * 32 + total us
+
+-- the six tables
+pub total-six : total tableRules ≡ 3736
+unfolding total tableRules uuidRule linkKeyRule longTermKeyRule identityKeyRule blockedRule deviceRule
+total-six = refl
 
 -- numbers in a part
 pub u16-part : (s : Octets) (b m k : ℕ) → k + 1 < m → u16 (part s b m) k ≡ u16 s (b + k)
