@@ -1,16 +1,14 @@
 -- The test of a state, block by block: a state is well formed if it has the right length and each of its four blocks is well formed.
-use Prim.Native.Nat.{ℕ, zero, suc, _+_, _-_, _*_, _^_, _<_, _≤_}
+use Prim.Native.Nat.{ℕ, zero, suc, _*_, _^_}
 use native.Mathlib.Omega.{arith}
 use mathlib.Core.Path.{_≡_, refl, sym, ap, _∙_}
-use mathlib.Core.Bool.{Bool, true, false, _&&_}
-use mathlib.Core.List.{List, [], _∷_, _++_}
-use mathlib.Core.Option.{Option, none, some}
-use lib.ListN.{length, getD, take, drop, length-drop, take-append-drop}
+use mathlib.Core.Bool.{Bool, true, _&&_}
+use mathlib.Core.List.{[], _∷_, _++_}
+use lib.ListN.{length, take, drop, length-drop, take-append-drop}
 use lib.Seq.{take-at, drop-at}
 use lib.Dec.{eqb, ltb}
 use borrow.Author.Tests.{eq-eqb, lt-ltb}
 use Rattle.model.specs.Octets.{Octets, bytes, le32, same, u32}
-use Rattle.model.specs.State.{Controller, OpenCommand}
 use Rattle.model.specs.WellFormed.{openOk, opensOk, plainOk, slotOk, slotsOk, wellFormed}
 use Rattle.model.specs.Layout.{block, blockLength, blocks, controllerIn, controllersIn, decode, encode, openIn, opensIn, stateLength}
 use Rattle.model.specs.Meanings.{stateOk}
@@ -105,7 +103,7 @@ module _ (s : Octets) (w : bytes s ≡ true) where
       let f = all-blocks 4 o (length-behind s l) (a .1) in
       let c : ltb (u32 s 0) (2 ^ 32) ≡ true = lt-ltb (u32 s 0) (2 ^ 32) (u32-lt s 0 w) in
       let g : s ≡ le32 (u32 s 0) ++ blocks (controllersIn 4 o) (opensIn 4 o) =
-          sym (take-append-drop 4 s) ∙ ap (λ (t : Octets). t ++ o) (clock-of s w l) ∙ ap (λ (t : Octets). le32 (u32 s 0) ++ t) (f .whole) in
+      sym (take-append-drop 4 s) ∙ ap (λ (t : Octets). t ++ o) (clock-of s w l) ∙ ap (λ (t : Octets). le32 (u32 s 0) ++ t) (f .whole) in
       let z : same s (le32 (u32 s 0) ++ blocks (controllersIn 4 o) (opensIn 4 o)) ≡ true = rw (← g) (same-refl s) in
       both (a .0) (both (both (both (both (four o) c) (f .slots)) (f .opens)) z)
 

@@ -1,27 +1,26 @@
 -- The open command where it lies: code (2 octets), then parameters (3). It is one that would be started, and what its code does not use is zero.
-use Prim.Native.Nat.{ℕ, zero, suc, _+_, _-_, _*_, _<_, _≤_}
+use Prim.Native.Nat.{ℕ, zero, suc, _+_, _≤_}
 use native.Mathlib.Omega.{arith}
 use mathlib.Core.Path.{_≡_, refl, sym, ap, _∙_}
-use mathlib.Core.Bool.{Bool, true, false, _&&_, _||_}
+use mathlib.Core.Bool.{Bool, true, false, _&&_}
 use mathlib.Core.List.{List, [], _∷_, _++_}
-use mathlib.Core.Option.{Option, none, some}
+use mathlib.Core.Option.{none, some}
 use mathlib.Core.Logic.{_⊎_, inl, inr, ⊎-elim}
-use lib.ListN.{length, getD, take, drop, replicate, drop-of-length-le, length-take}
+use lib.ListN.{length, take, drop, replicate, drop-of-length-le, length-take}
 use lib.Seq.{take-all, take-take}
 use lib.Dec.{eqb}
-use borrow.Author.Tests.{eq-eqb, ne-eqb, eqb-true, eqb-false}
+use borrow.Author.Tests.{eq-eqb, ne-eqb, eqb-true}
 use Rattle.model.specs.declared.RadioSettings.{RadioSettings}
 use Rattle.model.specs.Octets.{Octets, allZero, bytes, le16, same, u16}
 use Rattle.model.specs.State.{Controller, OpenCommand}
-use Rattle.model.specs.Reasons.{passes}
-use Rattle.model.specs.Rules.{RadioRule, Rule, general, immediate, radio, setConnectable, setDiscoverable, setLowEnergy, setPowered, setStaticAddress}
+use Rattle.model.specs.Rules.{RadioRule, radio, setConnectable, setDiscoverable, setLowEnergy, setPowered, setStaticAddress}
 use Rattle.model.specs.Commands.{Row, find, rows, rule}
 use Rattle.model.specs.Hub.{starts, startsBy}
 use Rattle.model.specs.WellFormed.{openOk}
 use Rattle.model.specs.Layout.{openPart, openWith, sizeOf}
-use Rattle.model.specs.Proof.Decode.{Started, started-by}
-use Rattle.model.specs.Proof.Tables.{bytes-drop, bytes-take, eqb-self, same-refl}
-use Rattle.model.specs.Proof.Tests.{and-true, both, either, no-way}
+use Rattle.model.specs.Proof.Decode.{started-by}
+use Rattle.model.specs.Proof.Tables.{bytes-take, eqb-self, same-refl}
+use Rattle.model.specs.Proof.Tests.{no-way}
 use Rattle.octets.specs.Parts.{length-part, part}
 use Rattle.rules.specs.Decisions.{decision, isWait}
 use Rattle.rules.proofs.Ties.{starts-is}

@@ -1,34 +1,33 @@
 -- The block of an index, part by part: what the model's test of a block comes to, where it lies in the state.
-use Prim.Native.Nat.{ℕ, zero, suc, _+_, _-_, _*_, _<_, _≤_}
+use Prim.Native.Nat.{ℕ, zero, _+_, _<_, _≤_}
 use native.Mathlib.Omega.{arith}
 use native.Mathlib.Nat.{add-zero}
 use mathlib.Core.Path.{_≡_, refl, sym, ap, _∙_}
 use mathlib.Core.Bool.{Bool, true, false, _&&_}
-use mathlib.Core.List.{List, [], _∷_, _++_}
+use mathlib.Core.List.{_∷_, _++_}
 use mathlib.Core.Option.{Option, none, some}
-use lib.ListN.{length, getD, take, drop, replicate}
+use lib.ListN.{length, getD, take, drop}
 use lib.Seq.{drop-drop, take-take}
-use lib.Dec.{eqb, ltb}
+use lib.Dec.{eqb}
 use borrow.Author.Tests.{eq-eqb, lt-ltb, ne-eqb}
-use Rattle.model.specs.declared.Hardware.{Hardware}
 use Rattle.model.specs.declared.Settings.{Settings}
-use Rattle.model.specs.Octets.{Octets, allZero, bytes, same, u16, u32}
+use Rattle.model.specs.Octets.{Octets, allZero, bytes, same, u16}
 use Rattle.model.specs.State.{Controller, OpenCommand, settingsOf}
-use Rattle.model.specs.Tables.{blockedRule, deviceRule, identityKeyRule, linkKeyRule, longTermKeyRule, tableRules, uuidRule}
+use Rattle.model.specs.Tables.{tableRules}
 use Rattle.model.specs.Image.{nameOk, radioOk}
-use Rattle.model.specs.WellFormed.{controllerOk, openOk, slotOk, tablesOk, timerOk, widthsOk}
+use Rattle.model.specs.WellFormed.{controllerOk, openOk, slotOk, tablesOk, widthsOk}
 use Rattle.model.specs.Layout.{block, controllerBack, controllerIn, controllerPart, hardwarePart, openBack, openIn, openPart, openWith, regions, settingsPart, stateLength, tablesBack}
 use Rattle.model.specs.Meanings.{stateOk}
 use Rattle.model.specs.Proof.Rows.{fit-widths}
 use Rattle.model.specs.Proof.Layout.{length-open}
-use Rattle.model.specs.Proof.Tables.{byte-at, bytes-drop, bytes-take, same-refl}
+use Rattle.model.specs.Proof.Tables.{byte-at, same-refl}
 use Rattle.model.specs.Proof.Tests.{and-true, both}
 use Rattle.octets.specs.Parts.{getD-part, length-part, part, placeAt}
 use Rattle.layout.specs.Places.{base, controllerOf, placeOf, sizes}
 use Rattle.layout.specs.Reads.{hardware-at, hardwareFrom, name-at, open-some, settings-at, settingsFrom}
 use Rattle.rules.specs.Decisions.{settingsOk}
 use Rattle.rules.proofs.Ties.{timer-ok-is}
-use Rattle.checks.specs.Tests.{and-on, one-test, part-add, part-bytes, same-append, same-zeros, u16-lt}
+use Rattle.checks.specs.Tests.{and-on, one-test, part-bytes, same-append, same-zeros, u16-lt}
 use Rattle.checks.specs.Blocks.{blockOk, blocksOk, state-blocks}
 use Rattle.checks.specs.Tables.{drop-part, tables-are, tablesFine, total-six, u16-part}
 use Rattle.checks.specs.Open.{open-is, openFine}

@@ -1,17 +1,16 @@
 -- Hardware and settings where they lie: the hardware's octets are always the one encoding of what they mean, the settings' are if each of the
 -- five flags is 0 or 1.
-use Prim.Native.Nat.{ℕ, zero, suc, _+_, _-_, _*_, _<_, _≤_}
+use Prim.Native.Nat.{ℕ, zero, suc, _+_, _<_, _≤_}
 use native.Mathlib.Omega.{arith}
-use mathlib.Core.Path.{_≡_, refl, sym, ap, _∙_}
+use mathlib.Core.Path.{_≡_, refl, _∙_}
 use mathlib.Core.Bool.{Bool, true, false, _&&_}
-use mathlib.Core.List.{List, [], _∷_, _++_}
-use lib.ListN.{length, getD, take, drop}
+use mathlib.Core.List.{[], _∷_, _++_}
+use lib.ListN.{length, getD}
 use lib.Seq.{drop-cons}
 use lib.Dec.{eqb, leb}
-use borrow.Author.Tests.{eqb-true, eqb-false, le-leb, lt-leb, ne-eqb}
+use borrow.Author.Tests.{lt-leb, ne-eqb}
 use Rattle.model.specs.declared.Hardware.{Hardware}
-use Rattle.model.specs.declared.Settings.{Settings}
-use Rattle.model.specs.Octets.{Octets, bytes, le16, le32, same, u16, u32}
+use Rattle.model.specs.Octets.{Octets, bytes, le16, same}
 use Rattle.model.specs.State.{flag}
 use Rattle.model.specs.Layout.{hardwarePart, settingsPart}
 use Rattle.model.specs.Proof.Tables.{same-refl}
@@ -94,6 +93,6 @@ settings-same s b f w h =
     let r : Octets = part s (b + 24) 2 ++ part s (b + 26) 6 in
     let c : part s (b + 19) 13 ≡ part s (b + 19) 5 ++ r = rw (part-cut s (b + 19) 5 8 (b + 24) 13 (omega arith) refl, part-cut s (b + 24) 2 6 (b + 26) 8 (omega arith) refl) in
     let v : part s (b + 19) 5 ≡ o (b + 19) ∷ o (b + 20) ∷ o (b + 21) ∷ o (b + 22) ∷ o (b + 23) ∷ [] =
-        five-octets s (b + 19) (b + 20) (b + 21) (b + 22) (b + 23) (omega arith) (omega arith) (omega arith) (omega arith) (omega arith) in
+    five-octets s (b + 19) (b + 20) (b + 21) (b + 22) (b + 23) (omega arith) (omega arith) (omega arith) (omega arith) (omega arith) in
     let g : same (part s (b + 19) 5 ++ r) (fs ++ r) ≡ same (part s (b + 19) 5) fs && same r r = same-append (part s (b + 19) 5) r fs r (length-part s (b + 19) 5 (omega arith)) in
     rw (c, le16-part s (b + 24) w (omega arith)) (g ∙ rw (same-refl r, v, and-on (same (o (b + 19) ∷ o (b + 20) ∷ o (b + 21) ∷ o (b + 22) ∷ o (b + 23) ∷ []) fs)) (flags-same (o (b + 19)) (o (b + 20)) (o (b + 21)) (o (b + 22)) (o (b + 23))))

@@ -1,16 +1,16 @@
 -- The slots of a table where they lie: free slots are zero exactly if the octets are the one encoding of the table that they mean.
 use Prim.Native.Nat.{ℕ, zero, suc, _+_, _-_, _*_, _/_, _%_, _<_, _≤_}
 use native.Mathlib.Omega.{arith}
-use native.Mathlib.Nat.{mul-suc, mul-zero, add-zero}
-use mathlib.Core.Path.{_≡_, refl, sym, ap, _∙_}
+use native.Mathlib.Nat.{mul-suc, mul-zero}
+use mathlib.Core.Path.{_≡_, refl, sym, _∙_}
 use mathlib.Core.Bool.{Bool, true, false, _&&_, _||_}
-use mathlib.Core.List.{List, [], _∷_, _++_}
-use mathlib.Core.Option.{Option, none, some}
-use lib.ListN.{length, take, drop, replicate, length-replicate}
+use mathlib.Core.List.{[], _∷_, _++_}
+use mathlib.Core.Option.{none, some}
+use lib.ListN.{length, drop, length-replicate}
 use lib.Seq.{drop-drop}
 use lib.Dec.{eqb}
 use borrow.Author.Tests.{eq-eqb, ne-eqb}
-use Rattle.model.specs.Octets.{Octets, allZero, bytes, le32, same, u32}
+use Rattle.model.specs.Octets.{Octets, allZero, bytes, same, u32}
 use Rattle.model.specs.Tables.{chop}
 use Rattle.model.specs.Layout.{occupancy, region, slotOctets, slots, slotsBack}
 use Rattle.model.specs.Proof.Tables.{same-refl}

@@ -1,23 +1,22 @@
 -- The tables of a controller where they lie, one after the other: each keeps its rule, has the support it needs, and its free slots are zero.
-use Prim.Native.Nat.{ℕ, zero, suc, _+_, _-_, _*_, _/_, _%_, _<_, _≤_}
+use Prim.Native.Nat.{ℕ, zero, suc, _+_, _*_, _/_, _%_, _<_, _≤_}
 use native.Mathlib.Omega.{arith}
-use native.Mathlib.Nat.{add-zero, mul-suc, mul-zero}
+use native.Mathlib.Nat.{add-zero, mul-suc}
 use mathlib.Core.Path.{_≡_, refl, sym, ap, _∙_}
-use mathlib.Core.Bool.{Bool, true, false, _&&_, _||_}
+use mathlib.Core.Bool.{Bool, true, false, _&&_}
 use mathlib.Core.List.{List, [], _∷_, _++_}
-use mathlib.Core.Option.{Option, none, some}
-use lib.ListN.{length, getD, take, drop}
+use mathlib.Core.Option.{none, some}
+use lib.ListN.{length, take, drop}
 use lib.Seq.{drop-drop, take-take}
 use lib.Dec.{eqb}
-use borrow.Author.Tests.{eq-eqb}
 use Rattle.model.specs.declared.Hardware.{Hardware}
 use Rattle.model.specs.Octets.{Octets, bytes, same, u16, u32}
 use Rattle.model.specs.State.{Table}
 use Rattle.model.specs.Tables.{TableRule, blockedRule, chop, deviceRule, entries, every, identityKeyRule, linkKeyRule, longTermKeyRule, recordsOk, supportOk, tableRules, uuidRule}
 use Rattle.model.specs.WellFormed.{tableOk, tablesOk}
 use Rattle.model.specs.Layout.{region, regions, slotsBack, tableBack, tablesBack}
-use Rattle.model.specs.Proof.Tables.{bytes-chop, bytes-drop, same-refl}
-use Rattle.model.specs.Proof.Tests.{and-true, both, either}
+use Rattle.model.specs.Proof.Tables.{bytes-chop, bytes-drop}
+use Rattle.model.specs.Proof.Tests.{and-true, both}
 use Rattle.octets.specs.Parts.{drop-take, getD-part, length-part, part}
 use Rattle.table.specs.Slots.{tableAt}
 use Rattle.table.specs.Laws.{length-region, length-table, sized-at}
@@ -140,7 +139,7 @@ tables-are f (u ∷ us) s at w h =
     let l : length (part s at n) ≡ n = length-part s at n (omega arith) in
     let z : length (region (u .size) t) ≡ n = length-region (u .size) t (sized-at s at (u .size) (omega arith)) (length-table s at (u .size)) in
     let g : same (part s at (n + total us)) (region (u .size) t ++ regions us (tablesBack us r)) ≡ freeZero s (u .size) (at + 4) 32 (u32 s at) && same r (regions us (tablesBack us r)) =
-        rw (part-add s at n (total us)) (same-append (part s at n) r (region (u .size) t) (regions us (tablesBack us r)) (l ∙ sym z) ∙ rw (region-same s at (u .size) w (omega arith))) in
+    rw (part-add s at n (total us)) (same-append (part s at n) r (region (u .size) t) (regions us (tablesBack us r)) (l ∙ sym z) ∙ rw (region-same s at (u .size) w (omega arith))) in
     rw (table-in s at (u .size) (total us), d, g, table-is u f s at w)
     (swap (recordsOk u (entries t) && supportOk u f (entries t)) (tablesOk f us (tablesBack us r)) (freeZero s (u .size) (at + 4) 32 (u32 s at)) (same r (regions us (tablesBack us r)))
     ∙ rw (tables-are f us s (at + n) w (omega arith)) (ap (λ (b : Bool). b && tablesFine f us s (at + n)) (fine-is u f s at)))

@@ -1,17 +1,17 @@
 -- Small facts on tests, octets and numbers that the other modules use.
-use Prim.Native.Nat.{ℕ, zero, suc, _+_, _-_, _*_, _/_, _%_, _<_, _≤_}
+use Prim.Native.Nat.{ℕ, zero, suc, _+_, _*_, _/_, _%_, _<_, _≤_}
 use native.Mathlib.Omega.{arith}
 use native.Mathlib.Nat.{div-div-eq-div-mul, mod-eq-of-lt}
-use mathlib.Core.Path.{_≡_, refl, sym, ap, _∙_}
+use mathlib.Core.Path.{_≡_, refl, sym}
 use mathlib.Core.Bool.{Bool, true, false, _&&_}
-use mathlib.Core.List.{List, [], _∷_, _++_}
-use lib.ListN.{length, getD, take, drop, replicate}
+use mathlib.Core.List.{[], _∷_, _++_}
+use lib.ListN.{length, getD, drop, replicate}
 use lib.Seq.{take-add, drop-drop, drop-cons}
-use lib.Dec.{eqb, ltb}
+use lib.Dec.{eqb}
 use lib.Pow.{low, high}
 use borrow.Author.Tests.{lt-ltb}
 use Rattle.model.specs.Octets.{Octets, allZero, bytes, le16, le32, same, u16, u32}
-use Rattle.model.specs.Proof.Tests.{and-true, both, no-way}
+use Rattle.model.specs.Proof.Tests.{both}
 use Rattle.model.specs.Proof.Tables.{byte-at, bytes-drop, bytes-take}
 use Rattle.octets.specs.Parts.{part}
 

@@ -1,10 +1,6 @@
--- Assumes nothing.
-use mathlib.Core.Path.{_≡_, refl, sym, ap, _∙_, subst}
-use mathlib.Core.List.{List, [], _∷_, _++_}
-use mathlib.Core.Logic.{⊎-elim}
-use Prim.Native.Nat.{ℕ, zero, suc, _+_, _-_, _*_, _≤_, _<_}
+-- `checks::block_ok` meets its contract. The laws `present-block` and `absent-block` say what the model's test of a block comes to.
+use mathlib.Core.Path.{sym, _∙_}
 use native.Mathlib.Omega.{arith}
-use lib.ListN.{length, take, drop, getD, set, length-set}
 use Rattle.checks.proofs.Laws.{absent-other, blank-block, present-one}
 use Rattle.checks.specs.Tests.{bytes-of}
 use Rattle.checks.specs.Present.{absent-block, present-block}
@@ -12,34 +8,22 @@ use denote.Ref.{now}
 use borrow.Author.Needs.{needs}
 use Rattle.checks.proofs.block_ok.Statement.{statement}
 use Rattle.checks.proofs.block_ok.Tie as tie
-use Rattle.checks.proofs.block_ok.Reads as reads
-use Rattle.checks.proofs.block_ok.Lts as lts
-use Rattle.checks.proofs.blank.Reads as blank-reads
-use Rattle.checks.proofs.block_place.Reads as block-place-reads
-use Rattle.checks.proofs.controller_ok.Reads as controller-ok-reads
-use Rattle.layout.proofs.present.Reads as present-reads
 
--- src/lib.rt:205:8
 present-requires : tie.Need-present-requires
 present-requires c κs = search needs
 
--- src/lib.rt:206:9
 controller-ok-requires : tie.Need-controller-ok-requires
 controller-ok-requires c κs = search needs
 
--- src/lib.rt:206:9
 returns : tie.Need-returns
 returns c = c .controller-ok .ensures ∙ present-block _ _ (bytes-of (now (c .before .before .before .before .args .s)) (λ k. omega (arith, c .before .before .before .shared-slice-known .given k))) (omega arith) (present-one _ _ (sym (c .before .before .present .ensures) ∙ c .before .if1 .taken))
 
--- src/lib.rt:208:14
 block-place-requires : tie.Need-block-place-requires
 block-place-requires c κs = search needs
 
--- src/lib.rt:208:5
 blank-requires : tie.Need-blank-requires
 blank-requires c κs = let e = c .block-place .ensures in omega arith
 
--- src/lib.rt:201:1
 returns-2 : tie.Need-returns-2
 returns-2 c = c .blank .ensures ∙ blank-block _ (c .before .before .before .before .before .args .i) _ (c .before .block-place .ensures) ∙ absent-block _ _ (omega arith) (absent-other _ _ (search needs) (sym (c .before .before .before .present .ensures) ∙ c .before .before .if1 .left))
 

@@ -1,65 +1,43 @@
--- Assumes nothing.
-use mathlib.Core.Path.{_≡_, refl, sym, ap, _∙_, subst}
-use mathlib.Core.List.{List, [], _∷_, _++_}
-use mathlib.Core.Logic.{⊎-elim}
-use Prim.Native.Nat.{ℕ, zero, suc, _+_, _-_, _*_, _≤_, _<_}
+-- `checks::table_ok` meets its contract. Each way out is one law: a free slot that is not zero, no slot in use, no support, and else the records tell.
+use mathlib.Core.Path.{sym, _∙_}
 use native.Mathlib.Omega.{arith}
-use lib.ListN.{length, take, drop, getD, set, length-set}
 use Rattle.checks.proofs.Laws.{table-empty, table-spoilt, table-told, table-unsupported}
 use Rattle.model.specs.Proof.Rows.{ruleAt}
 use denote.Ref.{now}
 use borrow.Author.Needs.{needs}
 use Rattle.checks.proofs.table_ok.Statement.{statement}
 use Rattle.checks.proofs.table_ok.Tie as tie
-use Rattle.checks.proofs.table_ok.Reads as reads
-use Rattle.checks.proofs.table_ok.Lts as lts
-use Rattle.checks.proofs.free_zero.Reads as free-zero-reads
-use Rattle.octets.proofs.u32_at.Reads as u32-at-reads
-use Rattle.records.proofs.keeps_rule.Reads as keeps-rule-reads
-use Rattle.records.proofs.size_of.Reads as size-of-reads
-use Rattle.records.proofs.supports.Reads as supports-reads
 
--- src/lib.rt:68:9
 size-of-requires : tie.Need-size-of-requires
 size-of-requires c κs = search needs
 
--- src/lib.rt:69:9
 u32-at-requires : tie.Need-u32-at-requires
 u32-at-requires c κs = search needs
 
--- src/lib.rt:70:27
 add-free-zero : tie.Need-add-free-zero
 add-free-zero c = search needs
 
--- src/lib.rt:70:8
 free-zero-requires : tie.Need-free-zero-requires
 free-zero-requires c κs = rw (c .before .size-of .ensures) (search needs)
 
--- src/lib.rt:72:13
 returns : tie.Need-returns
 returns c = λ f e. table-empty (ruleAt (c .before .before .before .before .before .before .args .k)) f (now (c .before .before .before .before .before .before .args .s)) (c .before .before .before .before .before .before .args .at) _ _ (c .before .before .before .before .size-of .ensures) (c .before .before .before .u32-at .ensures .0) (c .if2 .taken) (sym (c .before .before .free-zero .ensures) ∙ c .before .if1 .taken)
 
--- src/lib.rt:74:12
 supports-requires : tie.Need-supports-requires
 supports-requires c κs = search needs
 
--- src/lib.rt:75:46
 add-keeps-rule : tie.Need-add-keeps-rule
 add-keeps-rule c = search needs
 
--- src/lib.rt:75:13
 keeps-rule-requires : tie.Need-keeps-rule-requires
 keeps-rule-requires c κs = (search needs, omega arith, search needs)
 
--- src/lib.rt:75:13
 returns-2 : tie.Need-returns-2
 returns-2 c = λ f e. c .keeps-rule .ensures ∙ table-told (ruleAt (c .before .before .before .before .before .before .before .before .before .args .k)) f (now (c .before .before .before .before .before .before .before .before .before .args .s)) (c .before .before .before .before .before .before .before .before .before .args .at) _ _ (c .before .before .before .before .before .before .before .size-of .ensures) (c .before .before .before .before .before .before .u32-at .ensures .0) (sym (c .before .before .before .before .before .free-zero .ensures) ∙ c .before .before .before .before .if1 .taken) (sym (c .before .before .supports .ensures f e) ∙ c .before .if3 .taken)
 
--- src/lib.rt:64:1
 returns-3 : tie.Need-returns-3
 returns-3 c = λ f e. table-unsupported (ruleAt (c .before .before .before .before .before .before .before .before .args .k)) f (now (c .before .before .before .before .before .before .before .before .args .s)) (c .before .before .before .before .before .before .before .before .args .at) _ _ (c .before .before .before .before .before .before .size-of .ensures) (c .before .before .before .before .before .u32-at .ensures .0) (c .before .before .if2 .left) (c .before .before .before .before .before .u32-at .ensures .1) (sym (c .before .supports .ensures f e) ∙ c .if3 .left)
 
--- src/lib.rt:64:1
 returns-4 : tie.Need-returns-4
 returns-4 c = λ f e. table-spoilt (ruleAt (c .before .before .before .before .before .args .k)) f (now (c .before .before .before .before .before .args .s)) (c .before .before .before .before .before .args .at) _ _ (c .before .before .before .size-of .ensures) (c .before .before .u32-at .ensures .0) (sym (c .before .free-zero .ensures) ∙ c .if1 .left)
 
