@@ -10,13 +10,15 @@ use lib.ListN.{length, getD}
 use lib.Dec.{eqb, ltb}
 use borrow.Author.Tests.{eq-eqb, ne-eqb, lt-ltb, le-ltb}
 use Rattle.model.specs.declared.Settings.{Settings}
+use Rattle.model.specs.declared.RadioSettings.{RadioSettings}
 use Rattle.model.specs.Octets.{Octets, octet, u16, le32, commandComplete, commandStatus}
 use Rattle.model.specs.State.{Controller, currentSettings, settingsOf, withHost, withBondable}
 use Rattle.model.specs.Reasons.{Reason, valueAbove1, statusOf, firstOf}
-use Rattle.model.specs.Rules.{refuse, done, RadioRule, on, newSettings}
+use Rattle.model.specs.Rules.{refuse, done, RadioRule, on, newSettings, setPowered, setDiscoverable, setConnectable, setLowEnergy, setStaticAddress}
 use Rattle.model.specs.Immediate.{setBondable, sized, unless}
 use Rattle.model.specs.Hub.{withOpen}
 use Rattle.model.specs.Layout.{encode, decode}
+use Rattle.model.specs.Proof.Tests.{no-way}
 use Rattle.octets.specs.Parts.{writeAt}
 use Rattle.layout.specs.Places.{Ready, controllerOf, openAt, placeOf, putController}
 use Rattle.layout.specs.Open.{open-nothing, open-command}
@@ -27,11 +29,12 @@ use Rattle.replies.specs.declared.Answer.the-variants.{Done, Started, Refused}
 use Rattle.replies.proofs.Laws.{settings-short}
 use Rattle.rules.specs.declared.Decision.{Decision}
 use Rattle.rules.specs.declared.Decision.the-variants.{Refuse, Reject, Wait, Act}
-use Rattle.rules.specs.Effects.{withSettings, settingsBondable}
+use Rattle.rules.specs.Decisions.{decision}
+use Rattle.rules.specs.Effects.{withSettings, settingsBondable, settingsEffect, OnlySettings}
 use Rattle.rules.proofs.Ties.{refuse-fails, reject-fails, wait-passes, act-passes, bondable-only}
 use Rattle.outcomes.specs.Outcomes.{served, contended}
 use Rattle.outcomes.specs.Endings.{served-length, served-status, served-done, contended-length, contended-early, contended-busy, contended-late, contended-started, contended-done}
-use Rattle.settings.specs.Follows.{Follows}
+use Rattle.settings.specs.Follows.{Follows, Concludes}
 
 -- 1. The reply ------------------------------------------------------------------------------------------------------------------------------------
 
@@ -154,3 +157,41 @@ module _ (s : Octets) (i : ℕ) (ps : Octets) (u : RadioRule) (x : Decision) (ol
 
   pub act-past : x ≡ Act → firstOf (u .beforeBusy (controllerOf s i .radio) ps) ≡ none
   act-past e = act-passes u (controllerOf s i .radio) ps (f .decided ∙ e) .0
+
+-- 4. The five ---------------------------------------------------------------------------------------------------------------------------------------
+
+-- from the decision and the effect by value to the end that they share
+pub concluded : (s : Octets) (i code : ℕ) (ps : Octets) (u : RadioRule) (d d′ s′ : Octets) (r : Answer) (x : Decision) (old new : Settings) (n : ℕ)
+    → OnlySettings u (controllerOf s i) ps → n ≡ u .size → length ps ≡ n → old ≡ settingsOf (controllerOf s i) → x ≡ decision u (old .radio) ps → new ≡ settingsEffect u old ps
+    → Concludes s i code ps x old new r d d′ s′ → Gives (contended s i code ps u) r d d′ s′
+unfolding settingsOf
+concluded s i code ps u d d′ s′ r x old new n only z l eo ex en all =
+    let c = controllerOf s i in
+    let a : settingsEffect u (settingsOf c) ps ≡ new = sym (en ∙ rw eo) in
+    let y : decision u (c .radio) ps ≡ x = sym (ex ∙ rw eo) in
+    all u (record { sized = l ∙ z; decided = y; before = eo; after = only .settings ∙ a; whole = only .whole ∙ rw a })
+
+pub powered-size : 1 ≡ setPowered .size
+unfolding setPowered
+powered-size = refl
+
+pub discoverable-size : 3 ≡ setDiscoverable .size
+unfolding setDiscoverable
+discoverable-size = refl
+
+pub connectable-size : 1 ≡ setConnectable .size
+unfolding setConnectable
+connectable-size = refl
+
+pub low-energy-size : 1 ≡ setLowEnergy .size
+unfolding setLowEnergy
+low-energy-size = refl
+
+pub static-address-size : 6 ≡ setStaticAddress .size
+unfolding setStaticAddress
+static-address-size = refl
+
+-- Set Static Address never waits for the radio
+pub static-address-acts : (x : RadioSettings) (ps : Octets) (d : Decision) → d ≡ decision setStaticAddress x ps → d ≡ Wait → length ps ≤ 3
+unfolding setStaticAddress
+static-address-acts x ps d e w = no-way (sym (wait-passes setStaticAddress x ps (sym e ∙ w) .2))

@@ -114,3 +114,73 @@ fn conclude(
         Decision::Act => contend(state, index, code, ps, reply, d, old, new),
     }
 }
+
+// 0x0005 Set Powered.
+pub fn set_powered(state: &mut [u8], index: u64, ps: &[u8], reply: &mut [u8]) -> Answer
+    requires { ⌜ Ready (now state) index × (1024 ≤ length (now reply)) ⌝ }
+    ensures { λ r. ⌜ Gives (contended (now (state .entry)) index 0x0005 (now (ps .entry)) setPowered) r (now (reply .entry)) (now (reply .exit)) (now (state .exit)) ⌝ }
+{
+    if ps.len() != 1 {
+        return refuse(reply, index, 0x0005, 0x0D);
+    }
+    let old = layout::settings_at(state, index);
+    let d = rules::decide_powered(old.radio, ps);
+    let new = rules::effect_powered(old, ps);
+    conclude(state, index, 0x0005, ps, reply, d, old, new)
+}
+
+// 0x0006 Set Discoverable.
+pub fn set_discoverable(state: &mut [u8], index: u64, ps: &[u8], reply: &mut [u8]) -> Answer
+    requires { ⌜ Ready (now state) index × (1024 ≤ length (now reply)) ⌝ }
+    ensures { λ r. ⌜ Gives (contended (now (state .entry)) index 0x0006 (now (ps .entry)) setDiscoverable) r (now (reply .entry)) (now (reply .exit)) (now (state .exit)) ⌝ }
+{
+    if ps.len() != 3 {
+        return refuse(reply, index, 0x0006, 0x0D);
+    }
+    let old = layout::settings_at(state, index);
+    let d = rules::decide_discoverable(old.radio, ps);
+    let new = rules::effect_discoverable(old, ps);
+    conclude(state, index, 0x0006, ps, reply, d, old, new)
+}
+
+// 0x0007 Set Connectable.
+pub fn set_connectable(state: &mut [u8], index: u64, ps: &[u8], reply: &mut [u8]) -> Answer
+    requires { ⌜ Ready (now state) index × (1024 ≤ length (now reply)) ⌝ }
+    ensures { λ r. ⌜ Gives (contended (now (state .entry)) index 0x0007 (now (ps .entry)) setConnectable) r (now (reply .entry)) (now (reply .exit)) (now (state .exit)) ⌝ }
+{
+    if ps.len() != 1 {
+        return refuse(reply, index, 0x0007, 0x0D);
+    }
+    let old = layout::settings_at(state, index);
+    let d = rules::decide_connectable(old.radio, ps);
+    let new = rules::effect_connectable(old, ps);
+    conclude(state, index, 0x0007, ps, reply, d, old, new)
+}
+
+// 0x000D Set Low Energy.
+pub fn set_low_energy(state: &mut [u8], index: u64, ps: &[u8], reply: &mut [u8]) -> Answer
+    requires { ⌜ Ready (now state) index × (1024 ≤ length (now reply)) ⌝ }
+    ensures { λ r. ⌜ Gives (contended (now (state .entry)) index 0x000D (now (ps .entry)) setLowEnergy) r (now (reply .entry)) (now (reply .exit)) (now (state .exit)) ⌝ }
+{
+    if ps.len() != 1 {
+        return refuse(reply, index, 0x000D, 0x0D);
+    }
+    let old = layout::settings_at(state, index);
+    let d = rules::decide_low_energy(old.radio, ps);
+    let new = rules::effect_low_energy(old, ps);
+    conclude(state, index, 0x000D, ps, reply, d, old, new)
+}
+
+// 0x002B Set Static Address.
+pub fn set_static_address(state: &mut [u8], index: u64, ps: &[u8], reply: &mut [u8]) -> Answer
+    requires { ⌜ Ready (now state) index × (1024 ≤ length (now reply)) ⌝ }
+    ensures { λ r. ⌜ Gives (contended (now (state .entry)) index 0x002B (now (ps .entry)) setStaticAddress) r (now (reply .entry)) (now (reply .exit)) (now (state .exit)) ⌝ }
+{
+    if ps.len() != 6 {
+        return refuse(reply, index, 0x002B, 0x0D);
+    }
+    let old = layout::settings_at(state, index);
+    let d = rules::decide_static_address(old.radio, ps);
+    let new = rules::effect_static_address(old, ps);
+    conclude(state, index, 0x002B, ps, reply, d, old, new)
+}
