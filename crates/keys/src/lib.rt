@@ -9,7 +9,11 @@ ghost use Rattle.model.specs.Tables.{chop};
 ghost use Rattle.model.specs.Proof.Rows.{ruleAt};
 ghost use Rattle.octets.specs.Parts.{writeAt};
 ghost use Rattle.replies.specs.declared.Answer.the-variants.{Refused};
-ghost use Rattle.keys.specs.Lists.{valueChecks};
+ghost use Rattle.model.specs.Immediate.{loadKeys};
+ghost use Rattle.layout.specs.Places.{Ready};
+ghost use Rattle.replies.specs.Answers.{Gives};
+ghost use Rattle.outcomes.specs.Outcomes.{served};
+ghost use Rattle.keys.specs.Lists.{keyList, valueChecks, ListOf};
 use replies::Answer;
 
 // A refusal by Command Status, 9 octets.
@@ -40,4 +44,40 @@ fn list_ok(k: usize, ps: &[u8], from: usize, n: usize) -> bool
 {
     let w = records::list_word(n);
     records::keeps_rule(k, ps, from, n, w)
+}
+
+// A list of keys for table k, of the right length: its count stands at `at`, and `fine` says whether what stands before the count is valid.
+// Count, values and support are checked in this order; then the list replaces the whole table.
+fn load_list(
+    state: &mut [u8],
+    index: u64,
+    code: u64,
+    k: usize,
+    ps: &[u8],
+    at: usize,
+    fine: bool,
+    reply: &mut [u8],
+) -> Answer
+    requires { ⌜ Ready (now state) index × (1024 ≤ length (now reply)) × ListOf k at fine (now ps) ⌝ }
+    ensures { λ r. ⌜ Gives (served (now (state .entry)) index code (now (ps .entry)) (loadKeys (keyList k))) r (now (reply .entry)) (now (reply .exit)) (now (state .exit)) ⌝ }
+{
+    let n = octets::u16_at(ps, at) as usize;
+    if 32 < n {
+        return refuse(reply, index, code, 0x07);
+    }
+    if fine {
+        if list_ok(k, ps, at + 2, n) {
+            let hardware = layout::hardware_at(state, index);
+            if records::supports(k, hardware.supported) {
+                let place = layout::table_place(index, k);
+                let size = records::size_of(k);
+                table::load(state, place, size, ps, at + 2, n);
+                replies::command_complete_part(reply, 0, index, code, 0, ps, 0, 0);
+                return Answer::Done(9);
+            }
+            return refuse(reply, index, code, 0x0C);
+        }
+        return refuse(reply, index, code, 0x0D);
+    }
+    refuse(reply, index, code, 0x0D)
 }
