@@ -5,18 +5,19 @@ use mathlib.Core.Path.{_≡_, refl, sym, ap, _∙_}
 use mathlib.Core.Bool.{Bool, true, false, not}
 use mathlib.Core.List.{List, [], _∷_, _++_, map, append-assoc, append-nil}
 use mathlib.Core.Option.{Option, none, some}
-use lib.ListN.{length, take, drop}
-use lib.Dec.{eqb, ltb}
-use borrow.Author.Tests.{eq-eqb, lt-ltb, le-ltb}
+use lib.ListN.{length, getD, take, drop}
+use lib.Dec.{eqb, leb, ltb}
+use borrow.Author.Tests.{eq-eqb, lt-ltb, le-ltb, ltb-true, ltb-false, le-leb, lt-leb}
 use Rattle.model.specs.declared.Hardware.{Hardware}
-use Rattle.model.specs.Octets.{Octets, u16, commandComplete, commandStatus}
+use Rattle.model.specs.Octets.{Octets, octet, u16, commandComplete, commandStatus}
 use Rattle.model.specs.State.{Controller, withHost, withTable}
-use Rattle.model.specs.Reasons.{Reason, Check, _⇒_, firstOf, passes, statusOf, countAbove32, recordRepeated}
+use Rattle.model.specs.Reasons.{Reason, Check, _⇒_, firstOf, nothing, passes, statusOf, countAbove32, debugFlagAbove1, recordRepeated}
 use Rattle.model.specs.Tables.{TableRule, chop, distinct, loaded, tableRules, leAddressChecks, linkKeyRule, longTermKeyRule, identityKeyRule, needsBredr, needsLe}
 use Rattle.model.specs.Rules.{Immediate, refuse, done}
 use Rattle.model.specs.Immediate.{KeyList, recordChecks, listChecks, loadKeys, unless, linkKeyList, longTermKeyList, identityKeyList}
 use Rattle.model.specs.Layout.{decode, encode, region}
 use Rattle.model.specs.Proof.Rows.{ruleAt, length-chop}
+use Rattle.model.specs.Proof.Tests.{equal}
 use Rattle.octets.specs.Parts.{part, writeAt}
 use Rattle.table.specs.Slots.{length-loaded, sized-loaded}
 use Rattle.layout.specs.Places.{Ready, controllerOf, putController, tablePlace}
@@ -204,3 +205,41 @@ module _ (s : Octets) (i code k at n : ℕ) (fine : Bool) (ps d d′ : Octets) (
         es ∙ rw (ep, ez) (table-stored s i given k (omega (arith, g .most)) (loaded list) long (sized-loaded (ruleAt k .size) n ps (at + 2) inside)) in
         served-done s i code ps (loadKeys (keyList k)) d d′ r given big (list-sized k at fine ps g) s′ [] [] (withTable (here .host) k (loaded list)) 9 b m
         (rw append-nil (length-complete i code 0 [])) (omega arith) (w ∙ rw (no-parameters i code ps)) st
+
+-- 5. The three commands ---------------------------------------------------------------------------------------------------------------------------------
+
+-- a list of another length
+pub list-wrong : (s : Octets) (i code k at size : ℕ) (fits : Bool) (ps d d′ : Octets) (r : Answer) → Ready s i → 1024 ≤ length d → keyList k .countAt ≡ at → keyList k .rule .size ≡ size
+    → fits ≡ eqb (length ps) (at + 2 + size * u16 ps at) → fits ≡ false → r ≡ Refused 9 → d′ ≡ writeAt d 0 (commandStatus i code 0x0D)
+    → Gives (served s i code ps (loadKeys (keyList k))) r d d′ s
+unfolding loadKeys
+list-wrong s i code k at size fits ps d d′ r g big ea ez e f m w = served-length s i code ps (loadKeys (keyList k)) d d′ r g big (rw (ea, ez) (sym e ∙ f)) m w
+
+-- the debug flag is 0 or 1
+debug-is : (v : ℕ) → leb v 1 ≡ passes ((ltb 1 v ⇒ debugFlagAbove1) ∷ [])
+unfolding passes firstOf nothing
+debug-is v = go (ltb 1 v) refl
+  where
+    go : (b : Bool) → ltb 1 v ≡ b → leb v 1 ≡ nothing (elim b [ true ↦ some debugFlagAbove1 | false ↦ none ])
+    go true e = lt-leb v 1 (ltb-true 1 v e)
+    go false e = le-leb v 1 (ltb-false 1 v e)
+
+-- lists of the right length
+pub link-list : (ps : Octets) (fits : Bool) → fits ≡ eqb (length ps) (1 + 2 + 25 * u16 ps 1) → fits ≡ true → ListOf 1 1 (leb (getD ps 0 0) 1) ps
+unfolding keyList linkKeyList ruleAt tableRules linkKeyRule octet
+link-list ps fits e f =
+    record { least = omega arith; most = omega arith; early = omega arith; place = refl; long = equal (length ps) (1 + 2 + 25 * u16 ps 1) (sym e ∙ f); head = debug-is (getD ps 0 0) }
+
+pub long-term-list : (ps : Octets) (fits : Bool) → fits ≡ eqb (length ps) (0 + 2 + 36 * u16 ps 0) → fits ≡ true → ListOf 2 0 true ps
+unfolding keyList longTermKeyList ruleAt tableRules longTermKeyRule passes firstOf nothing
+long-term-list ps fits e f =
+    record { least = omega arith; most = omega arith; early = omega arith; place = refl; long = equal (length ps) (0 + 2 + 36 * u16 ps 0) (sym e ∙ f); head = refl }
+
+pub identity-list : (ps : Octets) (fits : Bool) → fits ≡ eqb (length ps) (0 + 2 + 23 * u16 ps 0) → fits ≡ true → ListOf 3 0 true ps
+unfolding keyList identityKeyList ruleAt tableRules identityKeyRule passes firstOf nothing
+identity-list ps fits e f =
+    record { least = omega arith; most = omega arith; early = omega arith; place = refl; long = equal (length ps) (0 + 2 + 23 * u16 ps 0) (sym e ∙ f); head = refl }
+
+-- the first octet of a link key list is there
+pub link-first : (ps : Octets) (fits : Bool) → fits ≡ eqb (length ps) (1 + 2 + 25 * u16 ps 1) → fits ≡ true → 0 < length ps
+link-first ps fits e f = let h = equal (length ps) (1 + 2 + 25 * u16 ps 1) (sym e ∙ f) in omega arith
