@@ -183,3 +183,29 @@ fn forget_device(state: &mut [u8], index: u64, ps: &[u8])
     forget_keys(state, index, 2, ps);
     forget_keys(state, index, 3, ps);
 }
+
+// 0x001B Unpair: all keys under the address and type go, and Device Unpaired follows the reply.
+pub fn unpair_device(state: &mut [u8], index: u64, ps: &[u8], reply: &mut [u8]) -> Answer
+    requires { ⌜ Ready (now state) index × (1024 ≤ length (now reply)) ⌝ }
+    ensures { λ r. ⌜ Gives (served (now (state .entry)) index 0x001B (now (ps .entry)) unpairDevice) r (now (reply .entry)) (now (reply .exit)) (now (state .exit)) ⌝ }
+{
+    if ps.len() == 8 {
+        if 2 < ps[6] {
+            return refuse_address(reply, index, 0x0D, ps);
+        }
+        if 1 < ps[7] {
+            return refuse_address(reply, index, 0x0D, ps);
+        }
+        let settings = layout::settings_at(state, index);
+        let radio = settings.radio;
+        if radio.powered {
+            if paired(state, index, ps) {
+                forget_device(state, index, ps);
+                return unpaired_reply(reply, index, ps);
+            }
+            return refuse_address(reply, index, 0x06, ps);
+        }
+        return refuse_address(reply, index, 0x0F, ps);
+    }
+    refuse(reply, index, 0x001B, 0x0D)
+}
