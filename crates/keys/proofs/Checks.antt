@@ -4,16 +4,15 @@ use native.Mathlib.Omega.{arith}
 use native.Mathlib.Nat.{mul-suc, mul-le-mul-right}
 use mathlib.Core.Path.{_≡_, refl, sym, ap, _∙_}
 use mathlib.Core.Bool.{Bool, true, false, _&&_, not}
-use mathlib.Core.List.{List, [], _∷_, _++_, map, append-assoc}
+use mathlib.Core.List.{List, [], _∷_, _++_, map}
 use mathlib.Core.Option.{Option, none, some}
 use lib.ListN.{length, take, drop, length-drop}
 use lib.Seq.{length-take-le}
 use lib.Dec.{eqb}
 use borrow.Author.Tests.{eq-eqb, ne-eqb}
 use Rattle.model.specs.Octets.{Octets}
-use Rattle.model.specs.declared.Hardware.{Hardware}
-use Rattle.model.specs.Reasons.{Reason, Check, _⇒_, firstOf, nothing, passes, statusOf, recordRepeated}
-use Rattle.model.specs.Tables.{TableRule, chop, distinct, every, recordOk, recordsOk, leAddressChecks, linkKeyRule, longTermKeyRule, identityKeyRule, needsBredr, needsLe}
+use Rattle.model.specs.Reasons.{Reason, Check, firstOf, nothing, passes, statusOf}
+use Rattle.model.specs.Tables.{TableRule, chop, distinct, every, recordOk, recordsOk}
 use Rattle.model.specs.Immediate.{recordChecks}
 use Rattle.model.specs.Proof.Tests.{no-way}
 use Rattle.records.specs.Slots.{recordsAt, list-records}

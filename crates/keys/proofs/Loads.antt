@@ -1,20 +1,20 @@
 -- The key lists: from what each step of `load_list` leaves to what the model says, over plain values.
-use Prim.Native.Nat.{ℕ, zero, suc, _+_, _-_, _*_, _≤_, _<_}
+use Prim.Native.Nat.{ℕ, zero, suc, _+_, _*_, _≤_, _<_}
 use native.Mathlib.Omega.{arith}
-use mathlib.Core.Path.{_≡_, refl, sym, ap, _∙_}
-use mathlib.Core.Bool.{Bool, true, false, not}
-use mathlib.Core.List.{List, [], _∷_, _++_, map, append-assoc, append-nil}
-use mathlib.Core.Option.{Option, none, some}
-use lib.ListN.{length, getD, take, drop}
+use mathlib.Core.Path.{_≡_, refl, sym, _∙_}
+use mathlib.Core.Bool.{Bool, true, false}
+use mathlib.Core.List.{List, [], _∷_, _++_, append-assoc, append-nil}
+use mathlib.Core.Option.{none, some}
+use lib.ListN.{length, getD, drop}
 use lib.Dec.{eqb, leb, ltb}
 use borrow.Author.Tests.{eq-eqb, lt-ltb, le-ltb, ltb-true, ltb-false, le-leb, lt-leb}
 use Rattle.model.specs.declared.Hardware.{Hardware}
 use Rattle.model.specs.Octets.{Octets, octet, u16, commandComplete, commandStatus}
 use Rattle.model.specs.State.{Controller, withHost, withTable}
-use Rattle.model.specs.Reasons.{Reason, Check, _⇒_, firstOf, nothing, passes, statusOf, countAbove32, debugFlagAbove1, recordRepeated}
-use Rattle.model.specs.Tables.{TableRule, chop, distinct, loaded, tableRules, leAddressChecks, linkKeyRule, longTermKeyRule, identityKeyRule, needsBredr, needsLe}
-use Rattle.model.specs.Rules.{Immediate, refuse, done}
-use Rattle.model.specs.Immediate.{KeyList, recordChecks, listChecks, loadKeys, unless, linkKeyList, longTermKeyList, identityKeyList}
+use Rattle.model.specs.Reasons.{Reason, Check, _⇒_, firstOf, nothing, passes, statusOf, countAbove32, debugFlagAbove1}
+use Rattle.model.specs.Tables.{chop, loaded, tableRules, leAddressChecks, linkKeyRule, longTermKeyRule, identityKeyRule, needsBredr, needsLe}
+use Rattle.model.specs.Rules.{refuse, done}
+use Rattle.model.specs.Immediate.{KeyList, listChecks, loadKeys, unless, linkKeyList, longTermKeyList, identityKeyList}
 use Rattle.model.specs.Layout.{decode, encode, region}
 use Rattle.model.specs.Proof.Rows.{ruleAt, length-chop}
 use Rattle.model.specs.Proof.Tests.{equal}

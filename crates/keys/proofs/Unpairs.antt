@@ -1,21 +1,20 @@
 -- Unpair: from what its steps leave to what the model says, over plain values.
-use Prim.Native.Nat.{ℕ, zero, suc, _+_, _*_, _≤_, _<_}
+use Prim.Native.Nat.{ℕ, zero, suc, _≤_, _<_}
 use native.Mathlib.Omega.{arith}
-use mathlib.Core.Path.{_≡_, refl, sym, ap, _∙_}
-use mathlib.Core.Bool.{Bool, true, false, _&&_, _||_, not}
+use mathlib.Core.Path.{_≡_, refl, sym, _∙_}
+use mathlib.Core.Bool.{Bool, true, false, not}
 use mathlib.Core.List.{List, [], _∷_, _++_}
-use mathlib.Core.Option.{Option, none, some}
-use lib.ListN.{length, getD, take, drop, set, length-append}
+use lib.ListN.{length, getD, take, set, length-append}
 use lib.Seq.{getD-set-other, set-set, length-take-le}
-use lib.Dec.{eqb, ltb, lit<}
+use lib.Dec.{ltb}
 use borrow.Author.Tests.{eq-eqb, ne-eqb, lt-ltb, le-ltb}
 use Rattle.model.specs.declared.Hardware.{Hardware}
 use Rattle.model.specs.declared.Settings.{Settings}
 use Rattle.model.specs.Octets.{Octets, octet, event, commandComplete, commandStatus}
 use Rattle.model.specs.State.{Controller, Host, Hub, Table, settingsOf, tableOf, withController, withHost, withTable}
 use Rattle.model.specs.Reasons.{Reason, _⇒_, firstOf, statusOf, addressTypeAbove2, disconnectAbove1, unpowered, notPaired}
-use Rattle.model.specs.Tables.{TableRule, begins, freed, holds, tableRules, uuidRule, linkKeys, longTermKeys, identityKeys}
-use Rattle.model.specs.Rules.{Immediate, refuse, done}
+use Rattle.model.specs.Tables.{TableRule, begins, freed, holds, tableRules, uuidRule}
+use Rattle.model.specs.Rules.{refuse, done}
 use Rattle.model.specs.Immediate.{unless, sized, anyKey, unpaired, unpairDevice}
 use Rattle.model.specs.WellFormed.{controllerOk, tableOk, tablesOk, timerOk, widthsOk}
 use Rattle.model.specs.Layout.{decode, encode, region}

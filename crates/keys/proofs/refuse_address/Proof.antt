@@ -1,27 +1,16 @@
--- Assumes nothing.
-use mathlib.Core.Path.{_≡_, refl, sym, ap, _∙_, subst}
-use mathlib.Core.List.{List, [], _∷_, _++_}
-use mathlib.Core.Logic.{⊎-elim}
-use Prim.Native.Nat.{ℕ, zero, suc, _+_, _-_, _*_, _≤_, _<_}
-use native.Mathlib.Omega.{arith}
-use lib.ListN.{length, take, drop, getD, set, length-set}
+-- `keys::refuse_address` meets its contract. The address and type are the first seven octets.
+use mathlib.Core.Path.{refl, _∙_}
 use Rattle.keys.proofs.Unpairs.{first-seven}
 use borrow.Author.Needs.{needs}
 use Rattle.keys.proofs.refuse_address.Statement.{statement}
 use Rattle.keys.proofs.refuse_address.Tie as tie
-use Rattle.keys.proofs.refuse_address.Reads as reads
-use Rattle.keys.proofs.refuse_address.Lts as lts
-use Rattle.replies.proofs.command_complete_part.Reads as command-complete-part-reads
 
--- src/lib.rt:129:5
 command-complete-part-requires : tie.Need-command-complete-part-requires
 command-complete-part-requires c κs = search needs
 
--- src/lib.rt:125:1
 same-length : tie.Need-same-length
 same-length c = search needs
 
--- src/lib.rt:125:1
 returns : tie.Need-returns
 returns c = (refl, (c .before .before .command-complete-part .ensures) ∙ rw (first-seven (c .before .before .before .before .before .before .args .ps .now)))
 
