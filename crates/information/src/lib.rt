@@ -12,9 +12,11 @@ ghost use Rattle.replies.specs.declared.Answer.the-variants.{Refused};
 ghost use Rattle.model.specs.Octets.{commandStatus};
 ghost use Rattle.outcomes.specs.Outcomes.{general};
 ghost use Rattle.information.specs.General.{Reply, listed};
-ghost use Rattle.model.specs.Immediate.{setLocalName};
-ghost use Rattle.layout.specs.Places.{Ready};
+ghost use Rattle.information.specs.Controller.{informationHead, informationOf};
+ghost use Rattle.model.specs.Immediate.{readInformation, setLocalName};
+ghost use Rattle.layout.specs.Places.{Ready, controllerOf};
 ghost use Rattle.outcomes.specs.Outcomes.{served};
+use model::Hardware;
 use replies::Answer;
 
 // A general command whose return parameters are `body`: the index is 0xFFFF and there are no parameters, else it is refused.
@@ -124,4 +126,61 @@ pub fn set_local_name(state: &mut [u8], index: u64, ps: &[u8], reply: &mut [u8])
     }
     replies::event(reply, 269, 0x0008, index, ps);
     Answer::Done(535)
+}
+
+// Version, manufacturer, supported and current settings, and the class with these hints: what stands between the address and the name.
+fn information_head(f: Hardware, current: u64, hints: u8) -> [u8; 14]
+    ensures { λ r. ⌜ r ≡ informationHead f current hints ⌝ }
+{
+    let m = f.manufacturer;
+    let n = f.supported;
+    [
+        f.version,
+        (m % 256) as u8,
+        (m / 256 % 256) as u8,
+        (n % 256) as u8,
+        (n / 256 % 256) as u8,
+        (n / 65536 % 256) as u8,
+        (n / 16777216 % 256) as u8,
+        (current % 256) as u8,
+        (current / 256 % 256) as u8,
+        (current / 65536 % 256) as u8,
+        (current / 16777216 % 256) as u8,
+        0,
+        0,
+        hints,
+    ]
+}
+
+// Writes what is told of the controller at an index.
+fn put_information(state: &[u8], index: u64, out: &mut [u8])
+    requires { ⌜ Ready (now state) index × (length (now out) ≡ 280) ⌝ }
+    ensures { λ _. ⌜ now (out .exit) ≡ informationOf (controllerOf (now (state .entry)) index) ⌝ }
+{
+    let m = layout::settings_at(state, index);
+    let f = layout::hardware_at(state, index);
+    let current = rules::current_settings(m);
+    let uuids = layout::table_place(index, 0);
+    let hints = table::or_octets(state, uuids, 17, 16);
+    let head = information_head(f, current, hints);
+    let address = f.publicAddress;
+    let name = layout::name_place(index);
+    octets::copy_into(out, 0, &address);
+    octets::copy_into(out, 6, &head);
+    octets::copy_part(out, 20, state, name, 260);
+}
+
+// 0x0004 Read Controller Information, 280 octets; the state is only read.
+pub fn read_information(state: &[u8], index: u64, ps: &[u8], reply: &mut [u8]) -> Answer
+    requires { ⌜ Ready (now state) index × (1024 ≤ length (now reply)) ⌝ }
+    ensures { λ r. ⌜ Gives (served (now (state .entry)) index 4 (now (ps .entry)) readInformation) r (now (reply .entry)) (now (reply .exit)) (now (state .entry)) ⌝ }
+{
+    if ps.len() != 0 {
+        replies::command_status(reply, 0, index, 0x0004, 0x0D);
+        return Answer::Refused(9);
+    }
+    let mut body: [u8; 280] = [0; 280];
+    put_information(state, index, &mut body);
+    replies::command_complete(reply, 0, index, 0x0004, 0, &body);
+    Answer::Done(289)
 }
