@@ -6,13 +6,14 @@ ghost use Prim.Native.Nat.{_+_, _≤_, _<_};
 ghost use lib.ListN.{length};
 ghost use Rattle.model.specs.Octets as M;
 ghost use Rattle.model.specs.State.{controllerAt};
-ghost use Rattle.model.specs.Hub.{plugOut, unplugOut, unplugged};
+ghost use Rattle.model.specs.Hub.{clockOut, plugOut, unplugOut, unplugged};
 ghost use Rattle.model.specs.Layout.{decode};
 ghost use Rattle.model.specs.Meanings.{laidOut, stateOk};
 ghost use Rattle.octets.specs.Parts.{writeAt};
 ghost use Rattle.replies.specs.Answers.{Gives};
 ghost use Rattle.outcomes.specs.Outcomes.{ended};
 ghost use Rattle.calls.specs.Given.{hardwareGiven};
+ghost use Rattle.calls.specs.Ticks.{Ticked};
 use model::Hardware;
 use replies::Answer;
 
@@ -79,4 +80,45 @@ pub fn plug(
         return Answer::Done(6);
     }
     Answer::BadArgument
+}
+
+// Counts the timer at an index down, if a controller is there, and writes New Settings at the place if the timer ends. Returns the place behind.
+fn tick(state: &mut [u8], index: u64, step: u32, reply: &mut [u8], place: usize) -> usize
+    requires { ⌜ (stateOk (now state) ≡ true) × (length (now state) ≡ 16116) × (index < 4) × (place + 10 ≤ length (now reply)) × (place ≤ 30) ⌝ }
+    ensures { λ r. ⌜ Ticked (now (state .entry)) step index place r (now (reply .entry)) (now (reply .exit)) (now (state .exit)) ⌝ }
+{
+    if layout::present(state, index) {
+        let before = layout::settings_at(state, index);
+        let host = before.host;
+        let timer = host.timer;
+        let over = rules::ends(timer, step);
+        let left = rules::countdown(timer, step);
+        let after = rules::with_timer(before, left);
+        layout::put_settings(state, index, after);
+        if over {
+            let word = rules::current_settings(after);
+            replies::new_settings(reply, place, index, word);
+            return place + 10;
+        }
+        return place;
+    }
+    place
+}
+
+// A reading of the clock: every timer is counted down by the step, indexes ascending, and the reading is kept.
+pub fn clock(state: &mut [u8], reading: u32, reply: &mut [u8]) -> Answer
+    requires { ⌜ (stateOk (now state) ≡ true) × (length (now state) ≡ 16116) × (1024 ≤ length (now reply)) ⌝ }
+    ensures { λ r. ⌜ Gives (ended (now (state .entry)) (clockOut (decode (now (state .entry)) .plain) reading)) r (now (reply .entry)) (now (reply .exit)) (now (state .exit)) ⌝ }
+{
+    let last = layout::clock_at(state) as u32;
+    let step = rules::clock_step(last, reading);
+    if 0x80000000 <= step {
+        return Answer::BadArgument;
+    }
+    let a = tick(state, 0, step, reply, 0);
+    let b = tick(state, 1, step, reply, a);
+    let c = tick(state, 2, step, reply, b);
+    let d = tick(state, 3, step, reply, c);
+    layout::put_clock(state, reading);
+    Answer::Done(d)
 }
