@@ -6,7 +6,7 @@ ghost use lib.ListN.{length, take};
 ghost use Rattle.model.specs.Octets.{commandComplete, commandStatus};
 ghost use Rattle.model.specs.Octets as M;
 ghost use Rattle.model.specs.Tables.{begins};
-ghost use Rattle.model.specs.Immediate.{addDevice};
+ghost use Rattle.model.specs.Immediate.{addDevice, blockDevice, unblockDevice};
 ghost use Rattle.octets.specs.Parts.{writeAt};
 ghost use Rattle.table.specs.Slots.{tableAt};
 ghost use Rattle.layout.specs.Places.{Ready};
@@ -74,4 +74,48 @@ pub fn add_device(state: &mut [u8], index: u64, ps: &[u8], reply: &mut [u8]) -> 
         return refuse_address(reply, index, 0x0033, 0x07, ps);
     }
     refuse_address(reply, index, 0x0033, 0x0D, ps)
+}
+
+// 0x0026 Block Device: it goes to the lowest free slot.
+pub fn block_device(state: &mut [u8], index: u64, ps: &[u8], reply: &mut [u8]) -> Answer
+    requires { ⌜ Ready (now state) index × (1024 ≤ length (now reply)) ⌝ }
+    ensures { λ r. ⌜ Gives (served (now (state .entry)) index 0x0026 (now (ps .entry)) blockDevice) r (now (reply .entry)) (now (reply .exit)) (now (state .exit)) ⌝ }
+{
+    if ps.len() != 7 {
+        return refuse(reply, index, 0x0026, 0x0D);
+    }
+    if records::record_ok(4, ps, 0) {
+        let at = layout::table_place(index, 4);
+        let found = table::find(state, at, 7, ps, 7);
+        if found < 32 {
+            return refuse_address(reply, index, 0x0026, 0x03, ps);
+        }
+        let slot = table::free_slot(state, at);
+        if slot < 32 {
+            table::store(state, at, 7, slot, ps);
+            return device_reply(reply, index, 0x0026, 0x0014, ps);
+        }
+        return refuse_address(reply, index, 0x0026, 0x07, ps);
+    }
+    refuse_address(reply, index, 0x0026, 0x0D, ps)
+}
+
+// 0x0027 Unblock Device: its slot is free again.
+pub fn unblock_device(state: &mut [u8], index: u64, ps: &[u8], reply: &mut [u8]) -> Answer
+    requires { ⌜ Ready (now state) index × (1024 ≤ length (now reply)) ⌝ }
+    ensures { λ r. ⌜ Gives (served (now (state .entry)) index 0x0027 (now (ps .entry)) unblockDevice) r (now (reply .entry)) (now (reply .exit)) (now (state .exit)) ⌝ }
+{
+    if ps.len() != 7 {
+        return refuse(reply, index, 0x0027, 0x0D);
+    }
+    if records::record_ok(4, ps, 0) {
+        let at = layout::table_place(index, 4);
+        let found = table::find(state, at, 7, ps, 7);
+        if found < 32 {
+            table::release_matching(state, at, 7, ps, 7);
+            return device_reply(reply, index, 0x0027, 0x0015, ps);
+        }
+        return refuse_address(reply, index, 0x0027, 0x0D, ps);
+    }
+    refuse_address(reply, index, 0x0027, 0x0D, ps)
 }

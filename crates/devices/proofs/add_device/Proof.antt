@@ -8,6 +8,7 @@ use lib.ListN.{length, take, drop, getD, set, length-set}
 use Rattle.devices.proofs.Bridge.{add-device-length, add-device-bad, add-device-full, add-device-done, size5}
 use Rattle.devices.proofs.Laws.{record-room, fits, canonical}
 use lib.Dec.{lit<}
+use Rattle.model.specs.Proof.Rows.{ruleAt}
 use borrow.Author.Needs.{needs}
 use Rattle.devices.proofs.add_device.Statement.{statement}
 use Rattle.devices.proofs.add_device.Tie as tie
@@ -35,7 +36,7 @@ returns c = add-device-length _ _ _ _ _ _ (search needs) (search needs) (c .befo
 
 -- src/lib.rt:67:8
 record-ok-requires : tie.Need-record-ok-requires
-record-ok-requires c κs = (lit< tt, record-room _ 8 _ size5 (c .if1 .left))
+record-ok-requires c κs = (lit< tt, record-room (ruleAt 5) 8 (c .before .before .before .before .args .ps .now) size5 (c .if1 .left))
 
 -- src/lib.rt:68:13
 table-place-requires : tie.Need-table-place-requires
@@ -43,11 +44,11 @@ table-place-requires c κs = search needs
 
 -- src/lib.rt:69:13
 slot-for-requires : tie.Need-slot-for-requires
-slot-for-requires c κs = (fits _ _ (search needs) 5 (lit< tt) _ 8 (c .before .table-place .ensures) size5, search needs, search needs)
+slot-for-requires c κs = (fits (c .before .before .before .before .before .before .before .before .args .state .now) (c .before .before .before .before .before .before .before .before .args .index) (search needs) 5 (lit< tt) _ 8 (c .before .table-place .ensures) size5, search needs, search needs)
 
 -- src/lib.rt:71:13
 store-requires : tie.Need-store-requires
-store-requires c κs = (fits _ _ (search needs) 5 (lit< tt) _ 8 (c .before .before .before .before .table-place .ensures) size5, canonical _ _ (search needs) 5 (lit< tt) _ 8 (c .before .before .before .before .table-place .ensures) size5, c .before .if3 .taken, c .before .before .before .before .before .before .before .if1 .left)
+store-requires c κs = (fits (c .before .before .before .before .before .before .before .before .before .before .before .args .state .now) (c .before .before .before .before .before .before .before .before .before .before .before .args .index) (search needs) 5 (lit< tt) _ 8 (c .before .before .before .before .table-place .ensures) size5, canonical (c .before .before .before .before .before .before .before .before .before .before .before .args .state .now) (c .before .before .before .before .before .before .before .before .before .before .before .args .index) (search needs) 5 (lit< tt) _ 8 (c .before .before .before .before .table-place .ensures) size5, c .before .if3 .taken, c .before .before .before .before .before .before .before .if1 .left)
 
 -- src/lib.rt:72:13
 device-reply-requires : tie.Need-device-reply-requires
