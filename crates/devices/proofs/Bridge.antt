@@ -62,11 +62,11 @@ blocked-passes : (ps : Octets) (b : Bool) → length ps ≡ 7 → Checked 4 ps b
 unfolding blockedRule
 blocked-passes ps b n e = record-is (ruleAt 4) blockedRule ps b (rule4 4 refl) n e
 
-slot-told : statusOf noFreeSlot ≡ 0x07
+pub slot-told : statusOf noFreeSlot ≡ 0x07
 unfolding statusOf
 slot-told = refl
 
-no-checks : firstOf [] ≡ none
+pub no-checks : firstOf [] ≡ none
 unfolding firstOf
 no-checks = refl
 

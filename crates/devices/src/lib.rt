@@ -1,19 +1,22 @@
 // The commands on the tables of UUIDs, blocked devices and devices, over the lent state.
 ghost use mathlib.Core.Path.{_≡_};
-ghost use Prim.Native.Nat.{_+_, _*_, _≤_};
+ghost use Prim.Native.Nat.{_+_, _*_, _≤_, _<_};
+ghost use mathlib.Core.Bool.{_||_};
+ghost use mathlib.Core.Option.{some};
 ghost use mathlib.Core.List.{_++_};
-ghost use lib.ListN.{length, take};
+ghost use lib.ListN.{length, set, take};
 ghost use Rattle.model.specs.Octets.{commandComplete, commandStatus};
 ghost use Rattle.model.specs.Octets as M;
-ghost use Rattle.model.specs.Tables.{begins};
-ghost use Rattle.model.specs.Immediate.{addDevice, blockDevice, unblockDevice};
+ghost use Rattle.model.specs.Layout.{region};
+ghost use Rattle.model.specs.Tables.{begins, freed, holds};
+ghost use Rattle.model.specs.Immediate.{addDevice, addUuid, blockDevice, removeUuid, unblockDevice};
 ghost use Rattle.octets.specs.Parts.{writeAt};
-ghost use Rattle.table.specs.Slots.{tableAt};
+ghost use Rattle.table.specs.Slots.{Canonical, tableAt};
 ghost use Rattle.layout.specs.Places.{Ready};
 ghost use Rattle.replies.specs.Answers.{Gives};
 ghost use Rattle.replies.specs.declared.Answer.the-variants.{Done, Refused};
 ghost use Rattle.outcomes.specs.Outcomes.{served};
-ghost use Rattle.devices.specs.Slots.{slotFor};
+ghost use Rattle.devices.specs.Slots.{classReply, hintsOf, named, slotFor};
 use replies::Answer;
 
 // A refusal by Command Status.
@@ -118,4 +121,94 @@ pub fn unblock_device(state: &mut [u8], index: u64, ps: &[u8], reply: &mut [u8])
         return refuse_address(reply, index, 0x0027, 0x0D, ps);
     }
     refuse_address(reply, index, 0x0027, 0x0D, ps)
+}
+
+// Whether a removal names a record: all, or one with the first n octets of the key.
+fn names_record(state: &[u8], at: usize, size: usize, key: &[u8], n: usize, all: bool) -> bool
+    requires { ⌜ (at + (4 + size * 32) ≤ length (now state)) × (n ≤ size) × (n ≤ length (now key)) ⌝ }
+    ensures { λ r. ⌜ r ≡ (all || holds (begins n (now (key .entry))) (tableAt (now (state .entry)) at size)) ⌝ }
+{
+    if all {
+        return true;
+    }
+    table::find(state, at, size, key, n) < 32
+}
+
+// Frees what a removal names: all slots, or those whose record has the first n octets of the key.
+fn release_named(state: &mut [u8], at: usize, size: usize, key: &[u8], n: usize, all: bool)
+    requires { ⌜ (at + (4 + size * 32) ≤ length (now state)) × Canonical (now state) at size × (n ≤ size) × (n ≤ length (now key)) ⌝ }
+    ensures { λ _. ⌜ now (state .exit) ≡ writeAt (now (state .entry)) at (region size (freed (named all n (now (key .entry))) (tableAt (now (state .entry)) at size))) ⌝ }
+{
+    if all {
+        table::release_all(state, at, size);
+        return;
+    }
+    table::release_matching(state, at, size, key, n);
+}
+
+// Command Complete with the class, then Class Of Device Changed if the hints changed.
+pub fn class_reply(reply: &mut [u8], index: u64, code: u64, old: u8, new: u8) -> Answer
+    requires { ⌜ 1024 ≤ length (now reply) ⌝ }
+    ensures { λ r. ⌜ (r ≡ Done (length (classReply index code old new))) × (now (reply .exit) ≡ writeAt (now (reply .entry)) 0 (classReply index code old new)) ⌝ }
+{
+    let class: [u8; 3] = [0, 0, new];
+    replies::command_complete(reply, 0, index, code, 0, &class);
+    if old == new {
+        return Answer::Done(12);
+    }
+    replies::event(reply, 12, 0x0007, index, &class);
+    Answer::Done(21)
+}
+
+// Stores a UUID and its hint in a slot, and replies with the class: the hints of all UUIDs, read anew.
+fn store_uuid(state: &mut [u8], index: u64, at: usize, slot: usize, ps: &[u8], reply: &mut [u8]) -> Answer
+    requires { ⌜ (at + (4 + 17 * 32) ≤ length (now state)) × Canonical (now state) at 17 × (slot < 32) × (length (now ps) ≡ 17) × (1024 ≤ length (now reply)) ⌝ }
+    ensures { λ r. ⌜
+        (now (state .exit) ≡ writeAt (now (state .entry)) at (region 17 (set (tableAt (now (state .entry)) at 17) slot (some (now (ps .entry))))))
+        × (r ≡ Done (length (classReply index 0x0010 (hintsOf (tableAt (now (state .entry)) at 17)) (hintsOf (set (tableAt (now (state .entry)) at 17) slot (some (now (ps .entry))))))))
+        × (now (reply .exit) ≡ writeAt (now (reply .entry)) 0 (classReply index 0x0010 (hintsOf (tableAt (now (state .entry)) at 17)) (hintsOf (set (tableAt (now (state .entry)) at 17) slot (some (now (ps .entry)))))))
+    ⌝ }
+{
+    let old = table::or_octets(state, at, 17, 16);
+    table::store(state, at, 17, slot, ps);
+    let new = table::or_octets(state, at, 17, 16);
+    class_reply(reply, index, 0x0010, old, new)
+}
+
+// 0x0010 Add UUID: the hint of a present UUID is replaced, a new one goes to the lowest free slot.
+pub fn add_uuid(state: &mut [u8], index: u64, ps: &[u8], reply: &mut [u8]) -> Answer
+    requires { ⌜ Ready (now state) index × (1024 ≤ length (now reply)) ⌝ }
+    ensures { λ r. ⌜ Gives (served (now (state .entry)) index 0x0010 (now (ps .entry)) addUuid) r (now (reply .entry)) (now (reply .exit)) (now (state .exit)) ⌝ }
+{
+    if ps.len() != 17 {
+        return refuse(reply, index, 0x0010, 0x0D);
+    }
+    if records::record_ok(0, ps, 0) {
+        let at = layout::table_place(index, 0);
+        let slot = slot_for(state, at, 17, ps, 16);
+        if slot < 32 {
+            return store_uuid(state, index, at, slot, ps, reply);
+        }
+        return refuse(reply, index, 0x0010, 0x07);
+    }
+    refuse(reply, index, 0x0010, 0x0D)
+}
+
+// 0x0011 Remove UUID: one, or all by zero; the class is read anew, so a hint that another UUID shares stays.
+pub fn remove_uuid(state: &mut [u8], index: u64, ps: &[u8], reply: &mut [u8]) -> Answer
+    requires { ⌜ Ready (now state) index × (1024 ≤ length (now reply)) ⌝ }
+    ensures { λ r. ⌜ Gives (served (now (state .entry)) index 0x0011 (now (ps .entry)) removeUuid) r (now (reply .entry)) (now (reply .exit)) (now (state .exit)) ⌝ }
+{
+    if ps.len() != 16 {
+        return refuse(reply, index, 0x0011, 0x0D);
+    }
+    let all = octets::all_zero(ps);
+    let at = layout::table_place(index, 0);
+    if names_record(state, at, 17, ps, 16, all) {
+        let old = table::or_octets(state, at, 17, 16);
+        release_named(state, at, 17, ps, 16, all);
+        let new = table::or_octets(state, at, 17, 16);
+        return class_reply(reply, index, 0x0011, old, new);
+    }
+    refuse(reply, index, 0x0011, 0x0D)
 }
