@@ -225,8 +225,8 @@ module _ (s : Octets) (i : ℕ) (ps d d′ : Octets) (r : Answer) (g : Ready s i
           let it : tableAt s p 17 ≡ t = table-is s i g 0 (lit< tt) p 17 ep size0 in
           let st : set (tableAt s p 17) f (some ps) ≡ stored (begins 16 ps) ps t = rw (ef, it) (sym (stored-slot (begins 16 ps) ps t)) in
           let out : classReply i 0x0010 (hintsOf (tableAt s p 17)) (hintsOf (set (tableAt s p 17) f (some ps)))
-              ≡ commandComplete i 0x0010 0 (classOf (withTable (controllerOf s i .host) 0 (stored (begins 16 ps) ps t))) ++ newClass i (controllerOf s i .host) (withTable (controllerOf s i .host) 0 (stored (begins 16 ps) ps t)) =
-              rw (st, it) (reply-is i 0x0010 (controllerOf s i .host) (stored (begins 16 ps) ps t) long0) in
+          ≡ commandComplete i 0x0010 0 (classOf (withTable (controllerOf s i .host) 0 (stored (begins 16 ps) ps t))) ++ newClass i (controllerOf s i .host) (withTable (controllerOf s i .host) 0 (stored (begins 16 ps) ps t)) =
+          rw (st, it) (reply-is i 0x0010 (controllerOf s i .host) (stored (begins 16 ps) ps t) long0) in
           ends-done s i 0x0010 ps addUuid 17 refl d d′ r g big l _ _ (add-act i (controllerOf s i) ps)
           (passes-first (uuidRule .checks ps) _ (uuid-passes ps true l e) ∙ check-next _ noFreeSlot [] (room s i g 0 (lit< tt) p 17 ep size0 (begins 16 ps) f ef h) ∙ no-checks)
           s′ _ _ _ (length (classReply i 0x0010 (hintsOf (tableAt s p 17)) (hintsOf (set (tableAt s p 17) f (some ps))))) refl m (ap length (sym out)) (class-short i 0x0010 _ _) (w ∙ rw out)
@@ -252,8 +252,8 @@ module _ (s : Octets) (i : ℕ) (ps d d′ : Octets) (r : Answer) (g : Ready s i
         let nw : new ≡ hintsOf (freed (named (allZero ps) 16 ps) t) = hints-freed s p (fits s i g 0 (lit< tt) p 17 ep size0) s′ (named all 16 ps) new es en ∙ rw (ea, it) in
         let ow : old ≡ hintsOf t = eo ∙ rw it in
         let out : classReply i 0x0011 old new
-            ≡ commandComplete i 0x0011 0 (classOf (withTable (controllerOf s i .host) 0 (freed (named (allZero ps) 16 ps) t))) ++ newClass i (controllerOf s i .host) (withTable (controllerOf s i .host) 0 (freed (named (allZero ps) 16 ps) t)) =
-            rw (ow, nw) (reply-is i 0x0011 (controllerOf s i .host) (freed (named (allZero ps) 16 ps) t) long0) in
+        ≡ commandComplete i 0x0011 0 (classOf (withTable (controllerOf s i .host) 0 (freed (named (allZero ps) 16 ps) t))) ++ newClass i (controllerOf s i .host) (withTable (controllerOf s i .host) 0 (freed (named (allZero ps) 16 ps) t)) =
+        rw (ow, nw) (reply-is i 0x0011 (controllerOf s i .host) (freed (named (allZero ps) 16 ps) t) long0) in
         ends-done s i 0x0011 ps removeUuid 16 refl d d′ r g big l _ _ (remove-act i (controllerOf s i) ps)
         (check-next _ uuidAbsent [] (not-named ∙ rw e) ∙ no-checks)
         s′ _ _ _ (length (classReply i 0x0011 old new)) refl m (ap length (sym out)) (class-short i 0x0011 old new) (w ∙ rw out)

@@ -161,13 +161,20 @@ pub fn class_reply(reply: &mut [u8], index: u64, code: u64, old: u8, new: u8) ->
 }
 
 // Stores a UUID and its hint in a slot, and replies with the class: the hints of all UUIDs, read anew.
-fn store_uuid(state: &mut [u8], index: u64, at: usize, slot: usize, ps: &[u8], reply: &mut [u8]) -> Answer
+fn store_uuid(
+    state: &mut [u8],
+    index: u64,
+    at: usize,
+    slot: usize,
+    ps: &[u8],
+    reply: &mut [u8],
+) -> Answer
     requires { ⌜ (at + (4 + 17 * 32) ≤ length (now state)) × Canonical (now state) at 17 × (slot < 32) × (length (now ps) ≡ 17) × (1024 ≤ length (now reply)) ⌝ }
     ensures { λ r. ⌜
         (now (state .exit) ≡ writeAt (now (state .entry)) at (region 17 (set (tableAt (now (state .entry)) at 17) slot (some (now (ps .entry))))))
         × (r ≡ Done (length (classReply index 0x0010 (hintsOf (tableAt (now (state .entry)) at 17)) (hintsOf (set (tableAt (now (state .entry)) at 17) slot (some (now (ps .entry))))))))
         × (now (reply .exit) ≡ writeAt (now (reply .entry)) 0 (classReply index 0x0010 (hintsOf (tableAt (now (state .entry)) at 17)) (hintsOf (set (tableAt (now (state .entry)) at 17) slot (some (now (ps .entry)))))))
-    ⌝ }
+        ⌝ }
 {
     let old = table::or_octets(state, at, 17, 16);
     table::store(state, at, 17, slot, ps);
