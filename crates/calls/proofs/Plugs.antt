@@ -43,10 +43,6 @@ event-bare d d′ at code i src w = w
 
 -- 2. Unplug -------------------------------------------------------------------------------------------------------------------------------------
 
--- what unplug comes to at a state and an index
-abbrev unplugs : Octets → ℕ → Outcome
-unplugs s i = unplugOut (decode s .plain) i (controllerAt (decode s .plain) i)
-
 pub unplug-absent : (s : Octets) (i : ℕ) (d : Octets) (r : Answer) → stateOk s ≡ true → presentAt s i ≡ false → r ≡ BadArgument
     → Gives (laidOut (unplugged (decode s) i (unplugOut (decode s .plain) i (controllerAt (decode s .plain) i)))) r d d s
 unfolding unplugOut unplugged ended
@@ -125,6 +121,7 @@ made-given address a v m n l e =
     let q : take 6 (drop 0 address) ≡ address = take-all 6 address (omega arith) in
     rw (e, q)
 
+-- and its address is six octets long
 pub six-long : (address a : Octets) → length address ≡ 6 → a ≡ part address 0 6 → length a ≡ 6
 six-long address a l e = rw e (length-part address 0 6 (omega arith))
 

@@ -67,9 +67,6 @@ tick-absent s step i place d ok l e =
 
 module _ (s : Octets) (step i place : ℕ) (d d′ s′ : Octets) (g : Ready s i) (m k : Settings) (t u : Timer) (b : Bool) (em : m ≡ settingsOf (controllerOf s i)) (et : t ≡ m .host .timer)
     (eb : b ≡ ends step t) (eu : u ≡ countdown step t) (ek : k ≡ settingsTimer m u) (put : s′ ≡ encode (putController (decode s) i (withSettings (controllerOf s i) k))) where
-  abbrev c : Controller
-  c = controllerOf s i
-
   timer-is : t ≡ controllerOf s i .host .settings .timer
   unfolding settingsOf
   timer-is = et ∙ rw em
@@ -153,15 +150,9 @@ events-four step w x y z =
     rw (events-step step 0 w (x ∷ y ∷ z ∷ []), events-step step 1 x (y ∷ z ∷ []), events-step step 2 y (z ∷ []), events-step step 3 z [], append-nil)
     (simp append-assoc)
 
--- the four counted down
+-- a hub by its parts
 abbrev hubOf : ℕ → List (Option Controller) → List (Option OpenCommand) → Hub
 hubOf v cs os = record { plain = record { clock = v; controllers = cs }; openCommands = os }
-
-four-ticked : (step v u : ℕ) (w x y z : Option Controller) (os : List (Option OpenCommand))
-    → withClock (tickedAt step 3 (tickedAt step 2 (tickedAt step 1 (tickedAt step 0 (hubOf u (w ∷ x ∷ y ∷ z ∷ []) os))))) v
-    ≡ hubOf v (map (tickSlot step) (w ∷ x ∷ y ∷ z ∷ [])) os
-unfolding tickedAt withClock withController
-four-ticked step v u w x y z os = refl
 
 -- over any hub of four
 module _ (step v : ℕ) (u : ℕ) (w x y z : Option Controller) (os : List (Option OpenCommand)) (s s₁ s₂ s₃ s₄ s₅ d d₁ d₂ d₃ d₄ : Octets) (a b c e : ℕ)
@@ -187,9 +178,6 @@ module _ (step v : ℕ) (u : ℕ) (w x y z : Option Controller) (os : List (Opti
   pub state-four : s₅ ≡ encode (hubOf v (map (tickSlot step) (w ∷ x ∷ y ∷ z ∷ [])) os)
   unfolding withClock
   state-four = put ∙ rw h₄
-
-  abbrev first : Octets
-  first = tickEvent step 0 w ++ tickEvent step 1 x
 
   ea : a ≡ length (tickEvent step 0 w)
   ea = (rw h at (t₀ .count)) ∙ rw zero-add

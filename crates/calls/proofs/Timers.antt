@@ -68,6 +68,5 @@ tick-ok step c k = fit-controller (tick step c) (record {
     x : Widths c
     x = widths-fit c k
 
-
     h : ControllerFit c
     h = controller-fit c k

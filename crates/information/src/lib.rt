@@ -19,6 +19,72 @@ ghost use Rattle.outcomes.specs.Outcomes.{served};
 use model::Hardware;
 use replies::Answer;
 
+// What Read Commands returns: the counts, 19 and 10, then the codes of the commands and of the events, two octets each.
+const COMMANDS: [u8; 62] = [
+    19,
+    0,
+    10,
+    0,
+    0x03,
+    0,
+    0x04,
+    0,
+    0x05,
+    0,
+    0x06,
+    0,
+    0x07,
+    0,
+    0x09,
+    0,
+    0x0D,
+    0,
+    0x0F,
+    0,
+    0x10,
+    0,
+    0x11,
+    0,
+    0x12,
+    0,
+    0x13,
+    0,
+    0x1B,
+    0,
+    0x26,
+    0,
+    0x27,
+    0,
+    0x2B,
+    0,
+    0x30,
+    0,
+    0x33,
+    0,
+    0x34,
+    0,
+    0x04,
+    0,
+    0x05,
+    0,
+    0x06,
+    0,
+    0x07,
+    0,
+    0x08,
+    0,
+    0x14,
+    0,
+    0x15,
+    0,
+    0x16,
+    0,
+    0x1A,
+    0,
+    0x1B,
+    0,
+];
+
 // A general command whose return parameters are `body`: the index is 0xFFFF and there are no parameters, else it is refused.
 fn general_reply(index: u64, code: u64, ps: &[u8], body: &[u8], reply: &mut [u8]) -> Answer
     requires { ⌜ (1024 ≤ length (now reply)) × (length (now body) ≤ 1000) ⌝ }
@@ -50,12 +116,7 @@ pub fn read_commands(state: &[u8], index: u64, ps: &[u8], reply: &mut [u8]) -> A
     requires { ⌜ (stateOk (now state) ≡ true) × (1024 ≤ length (now reply)) ⌝ }
     ensures { λ r. ⌜ Gives (general (now (state .entry)) index 2 (now (ps .entry)) readCommands) r (now (reply .entry)) (now (reply .exit)) (now (state .entry)) ⌝ }
 {
-    let body: [u8; 62] = [
-        19, 0, 10, 0,
-        0x03, 0, 0x04, 0, 0x05, 0, 0x06, 0, 0x07, 0, 0x09, 0, 0x0D, 0, 0x0F, 0, 0x10, 0, 0x11, 0,
-        0x12, 0, 0x13, 0, 0x1B, 0, 0x26, 0, 0x27, 0, 0x2B, 0, 0x30, 0, 0x33, 0, 0x34, 0,
-        0x04, 0, 0x05, 0, 0x06, 0, 0x07, 0, 0x08, 0, 0x14, 0, 0x15, 0, 0x16, 0, 0x1A, 0, 0x1B, 0,
-    ];
+    let body = COMMANDS;
     general_reply(index, 0x0002, ps, &body, reply)
 }
 
