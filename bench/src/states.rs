@@ -7,13 +7,12 @@ pub const SIZES: [usize; 6] = [17, 25, 36, 23, 7, 8];
 /// Where the word of each table stands in a block.
 pub const WORDS: [usize; 6] = [292, 840, 1644, 2800, 3540, 3768];
 
-/// Record k of a table: valid, and distinct from the others in its last address octets only, as the keys of one maker's devices are.
+/// Record k of a table: valid, and distinct from the others in one octet only: UUIDs of 16 bits on the common base, addresses of one maker.
 fn record(table: usize, k: usize, out: &mut [u8]) {
     let k = k as u8 + 1;
     match table {
         0 => {
-            out[..15].fill(0x5F);
-            out[15] = k;
+            out[..16].copy_from_slice(&[0xFB, 0x34, 0x9B, 0x5F, 0x80, 0, 0, 0x80, 0, 0x10, 0, 0, k, 0x18, 0, 0]);
             out[16] = 0x20;
         }
         1 => address(k, 0, out),
