@@ -1,14 +1,13 @@
 -- Laws that the proofs of this crate cite, over plain lists and numbers, in the form in which the code leaves them.
-use mathlib.Core.Path.{_≡_, refl, ap, sym, _∙_}
-use Prim.Native.Nat.{ℕ, zero, suc, _+_, _-_, _*_, _≤_, _<_}
+use mathlib.Core.Path.{_≡_, refl, sym, _∙_}
+use Prim.Native.Nat.{ℕ, zero, suc, _+_, _-_, _≤_, _<_}
 use native.Mathlib.Omega.{arith}
-use mathlib.Core.List.{List, [], _∷_, _++_}
-use mathlib.Core.Option.{Option, none, some}
+use mathlib.Core.List.{List, [], _∷_}
+use mathlib.Core.Option.{some}
 use lib.ListN.{length, getD, replicate}
 use borrow.Author.Tests.{eq-eqb, ne-eqb, le-leb, lt-leb, le-ltb, lt-ltb}
 use Rattle.model.specs.declared.Settings.{Settings}
 use Rattle.model.specs.Octets.{Octets, le16}
-use Rattle.model.specs.State.{OpenCommand}
 use Rattle.model.specs.Hub.{withOpen}
 use Rattle.model.specs.Layout.{decode, encode, settingsPart}
 use Rattle.octets.specs.Parts.{placeAt, write-split, writeAt}
@@ -34,6 +33,7 @@ offset-below (suc (suc (suc (suc zero)))) = omega arith
 offset-below (suc (suc (suc (suc (suc zero))))) = omega arith
 offset-below (suc (suc (suc (suc (suc (suc k)))))) = omega arith
 
+-- by the sizes of the pieces
 offset-is : (k : ℕ) → k < 6 → getD offsets k 0 ≡ placeAt sizes (5 + k)
 unfolding placeAt sizes
 offset-is zero l = refl

@@ -1,54 +1,43 @@
 -- Each write to a well-formed state, as the change of the hub that it makes; and what lies at the places of a present controller.
 use mathlib.Core.Path.{_≡_, refl, ap, sym, _∙_}
-use Prim.Native.Nat.{ℕ, zero, suc, _+_, _*_, _-_, _≤_, _<_}
+use Prim.Native.Nat.{ℕ, _<_}
 use native.Mathlib.Omega.{arith}
-use native.Mathlib.Nat.{add-zero, mul-suc, mul-zero}
-use mathlib.Core.Bool.{Bool, true, false, _&&_}
-use mathlib.Core.List.{List, [], _∷_, _++_, append-nil}
+use native.Mathlib.Nat.{add-zero}
+use mathlib.Core.Bool.{true}
+use mathlib.Core.List.{List, []}
 use mathlib.Core.Option.{Option, none, some}
-use lib.ListN.{length, getD, take, drop, set, replicate, length-append, length-replicate}
-use lib.Seq.{drop-drop, take-take, take-all, take-at, set-getD}
-use lib.Dec.{eqb, lit<, lit≤}
-use Rattle.model.specs.declared.Hardware.{Hardware}
+use lib.ListN.{length, getD, set, replicate, length-replicate}
+use lib.Seq.{take-all, set-getD}
+use lib.Dec.{lit<}
 use Rattle.model.specs.declared.Settings.{Settings}
-use Rattle.model.specs.Octets.{Octets, le16, le32, u16, u32}
-use Rattle.model.specs.State.{Controller, Host, Hub, OpenCommand, PlainHub, Table, flag, leSupported, noTables, noTimer, plugged, settingsOf, tableOf, withController, withHost, withName, withTable}
-use Rattle.model.specs.Tables.{TableRule, blockedRule, chop, deviceRule, entries, every, identityKeyRule, linkKeyRule, longTermKeyRule, recordOk, tableRules, uuidRule}
-use Rattle.model.specs.Reasons.{passes}
+use Rattle.model.specs.Octets.{Octets, le16}
+use Rattle.model.specs.State.{Controller, Hub, OpenCommand, settingsOf, withController, withHost, withName}
 use Rattle.model.specs.Hub.{withOpen}
-use Rattle.model.specs.WellFormed.{controllerOk, plainOk, tableOk, tablesOk, wellFormed}
-use Rattle.model.specs.Layout.{block, decode, encode, hardwarePart, occupancy, openPart, region, settingsPart, slotOctets, slots, tableBack}
-use Rattle.model.specs.Proof.Decode.{length-region, table-back}
+use Rattle.model.specs.WellFormed.{controllerOk, plainOk, wellFormed}
+use Rattle.model.specs.Layout.{block, decode, encode, openPart, settingsPart}
 use Rattle.model.specs.Proof.Demand3.{state-back, state-well}
 use Rattle.model.specs.Proof.Layout.{length-open}
-use Rattle.model.specs.Proof.Region.{Sized}
-use Rattle.model.specs.Proof.Rows.{controller-fit, ruleAt, table-ok}
 use Rattle.model.specs.Proof.Stays.{controller-ok}
-use Rattle.model.specs.Proof.Tables.{table-fit}
-use Rattle.model.specs.Proof.Tests.{and-true, equal, no-way}
-use Rattle.octets.specs.Parts.{drop-take, getD-part, join, length-writeAt, lengths, part, placeAt, write-split, write-whole, writeAt}
-use Rattle.layout.specs.Places.{Ready, base, controllerOf, emptied, openAt, placeOf, presentAt, putController, settingsHead, sizes, tablePlace, withClock}
-use Rattle.table.specs.Slots.{tableAt}
+use Rattle.model.specs.Proof.Tests.{and-true}
+use Rattle.octets.specs.Parts.{join, lengths, part, write-whole, writeAt}
+use Rattle.layout.specs.Places.{Ready, base, controllerOf, emptied, openAt, placeOf, putController, sizes}
 use Rattle.rules.specs.Effects.{withSettings}
-use Rattle.layout.specs.Reads.{absent-open, absent-slot, present-controller, present-slot}
-use Rattle.layout.specs.Lens.{Shaped, block-put, all-long, join-block, piece-length, piece-read, piece-write, pieces, pieces-sized, regionPieces, shaped, state-is, state-put, withBlock, withSlot, write-in-sized, writeIn}
+use Rattle.layout.specs.Reads.{present-controller, present-slot}
+use Rattle.layout.specs.Lens.{Shaped, block-put, all-long, join-block, piece-length, piece-read, piece-write, pieces, pieces-sized, shaped, state-is, state-put, withBlock, withSlot, writeIn}
 
--- 1. A well-formed state and a present index ----------------------------------------------------------------------------------------------------
+-- 1. One slot of the hub, changed -----------------------------------------------------------------------------------------------------------------
 
--- the controller at a present index is valid
-pub controller-fine : (s : Octets) (i : ℕ) → Ready s i → controllerOk (controllerOf s i) ≡ true
-unfolding wellFormed
-controller-fine s i r = controller-ok (decode s .plain) i (controllerOf s i) (and-true (plainOk (decode s .plain)) _ (state-well s (r .ok)) .0) (present-controller s i r)
-
--- two ways to say that one slot is changed
+-- another controller beside the open command that stands there
 pub put-controller : (h : Hub) (i : ℕ) (d : Controller) → withSlot h i (some d) (getD (h .openCommands) i none) ≡ putController h i d
 unfolding withSlot putController
 put-controller h i d = rw set-getD
 
+-- another open command beside the controller that stands there
 pub put-open : (h : Hub) (i : ℕ) (c : Controller) (o : Option OpenCommand) → getD (h .plain .controllers) i none ≡ some c → withSlot h i (some c) o ≡ withOpen h i o
 unfolding withSlot withOpen withController
 put-open h i c o e = rw (← e, set-getD)
 
+-- an empty slot, with nothing under way
 pub put-none : (h : Hub) (i : ℕ) → withSlot h i none none ≡ emptied h i
 unfolding withSlot emptied
 put-none h i = refl
@@ -63,7 +52,15 @@ write-piece : (ps : List Octets) (k : ℕ) (w : Octets) → length w ≡ length 
 unfolding writeIn
 write-piece ps k w e = ap (λ (x : Octets). set ps k x) (write-whole (getD ps k []) w e)
 
+-- 2. A well-formed state and a present index ----------------------------------------------------------------------------------------------------
+
+-- the controller at a present index is valid
+pub controller-fine : (s : Octets) (i : ℕ) → Ready s i → controllerOk (controllerOf s i) ≡ true
+unfolding wellFormed
+controller-fine s i r = controller-ok (decode s .plain) i (controllerOf s i) (and-true (plainOk (decode s .plain)) _ (state-well s (r .ok)) .0) (present-controller s i r)
+
 module _ (s : Octets) (i : ℕ) (r : Ready s i) where
+  -- the shape of the hub
   shape : Shaped (decode s) i
   shape = shaped (decode s) i (state-well s (r .ok)) (r .below)
 
@@ -72,6 +69,7 @@ module _ (s : Octets) (i : ℕ) (r : Ready s i) where
   unfolding openAt
   now-is = state-back s (r .ok) ∙ state-is (decode s) i (shape .below) ∙ rw (present-slot s i (r .here), join-block (controllerOf s i) (getD (decode s .openCommands) i none))
 
+  -- and they have their sizes
   now-sized : lengths (pieces (controllerOf s i) (openAt s i)) ≡ sizes
   now-sized = pieces-sized (controllerOf s i) (openAt s i) (controller-fine s i r)
 
@@ -95,25 +93,26 @@ module _ (s : Octets) (i : ℕ) (r : Ready s i) where
       let f : withBlock (decode s) i (join (pieces d o)) ≡ encode (withSlot (decode s) i (some d) o) = rw (← join-block d o) (state-put (decode s) i (some d) o (shape .beside)) in
       ap (λ (x : Octets). writeAt x (placeOf i k) w) now-is ∙ (rw (add-zero, p) at q) ∙ f
 
-  -- a piece of the controller, and the open command
+  -- a piece of the controller written anew, with the open command as it was
   pub controller-changed : (k : ℕ) (w : Octets) (d : Controller) → k < 11 → length w ≡ getD sizes k 0 → set (pieces (controllerOf s i) (openAt s i)) k w ≡ pieces d (openAt s i)
       → writeAt s (placeOf i k) w ≡ encode (putController (decode s) i d)
   unfolding openAt
   controller-changed k w d l n e = piece-changed k w d (openAt s i) l n e ∙ ap encode (put-controller (decode s) i d)
 
+  -- the piece of the open command, written anew
   pub open-changed : (o : Option OpenCommand) → writeAt s (placeOf i 1) (openPart o) ≡ encode (withOpen (decode s) i o)
   unfolding pieces sizes
   open-changed o =
       piece-changed 1 (openPart o) (controllerOf s i) o (lit< tt) (length-open o) refl
       ∙ ap encode (put-open (decode s) i (controllerOf s i) o (present-slot s i (r .here)))
 
-  -- 2. Settings and name
-
+  -- the piece of the settings, written anew
   pub settings-changed : (m : Settings) → length (m .radio .staticAddress) ≡ 6
       → writeAt s (placeOf i 3) (settingsPart m) ≡ encode (putController (decode s) i (withSettings (controllerOf s i) m))
   unfolding pieces sizes withSettings settingsPart settingsOf le16
   settings-changed m n = controller-changed 3 (settingsPart m) (withSettings (controllerOf s i) m) (lit< tt) (omega arith) refl
 
+  -- the piece of the name, written anew
   pub name-changed : (ps : Octets) → length ps ≡ 260
       → writeAt s (placeOf i 4) ps ≡ encode (putController (decode s) i (withHost (controllerOf s i) (withName (controllerOf s i .host) ps)))
   unfolding pieces sizes withHost withName settingsOf

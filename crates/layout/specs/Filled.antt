@@ -1,25 +1,30 @@
--- The block of an absent index, which is zero, filled by plug; and the clock.
+-- The block of an absent index, which is zero, filled by plug; the fresh state; the clock.
 use mathlib.Core.Path.{_≡_, refl, ap, sym, _∙_}
-use Prim.Native.Nat.{ℕ, zero, suc, _+_, _*_, _-_, _≤_, _<_}
+use Prim.Native.Nat.{ℕ, _+_, _<_}
 use native.Mathlib.Omega.{arith}
 use native.Mathlib.Nat.{add-zero}
 use mathlib.Core.Bool.{Bool, true, false}
 use mathlib.Core.List.{List, [], _∷_, _++_, map}
 use mathlib.Core.Option.{Option, none, some}
-use lib.ListN.{length, getD, take, drop, set, replicate, length-append}
+use lib.ListN.{length, getD, drop, replicate, length-replicate}
 use lib.Dec.{lit<, lit≤}
 use Rattle.model.specs.declared.Hardware.{Hardware}
-use Rattle.model.specs.Octets.{Octets, le16, le32}
-use Rattle.model.specs.State.{Hub, OpenCommand, flag, leSupported, noTables, noTimer, plugged, settingsOf}
+use Rattle.model.specs.Octets.{Octets, event, le16, le32}
+use Rattle.model.specs.State.{OpenCommand, controllerAt, flag, fresh, hardwareOk, idle, leSupported, noTables, noTimer, plugged, settingsOf, withController}
 use Rattle.model.specs.Tables.{blockedRule, deviceRule, identityKeyRule, linkKeyRule, longTermKeyRule, tableRules, uuidRule}
-use Rattle.model.specs.Layout.{block, decode, encode, hardwarePart, occupancy, openPart, region, settingsPart, slotOctets, slots}
+use Rattle.model.specs.Layout.{block, blocks, decode, encode, hardwarePart, occupancy, openPart, region, settingsPart, slotOctets, slots}
 use Rattle.model.specs.Meanings.{stateOk}
-use Rattle.model.specs.Proof.Demand3.{state-back, state-well}
+use Rattle.model.specs.Proof.Demand3.{idle-ok, state-back, state-well}
+use Rattle.model.specs.Proof.Tests.{no-way}
 use Rattle.octets.specs.Parts.{join, lengths, placeAt, write-split, write-whole, writeAt}
-use Rattle.layout.specs.Places.{base, hardwareHead, openAt, placeOf, presentAt, putController, sizes, withClock}
+use Rattle.layout.specs.Places.{Ready, base, controllerOf, hardwareHead, openAt, placeOf, presentAt, putController, sizes, withClock}
 use Rattle.layout.specs.Reads.{absent-open, absent-slot}
 use Rattle.layout.specs.Lens.{Shaped, join-block, piece-write, pieces, regionPieces, shaped, state-is, state-put, withBlock, withSlot, write-in-sized, writeIn}
+use Rattle.model.specs.Hub.{badArgument, callPlain, finished, plug, plugOut, stateOf, underWay, within}
+use Rattle.model.specs.WellFormed.{callWide, controllerOk, hardwareWide, openOk, plainOk, slotOk, slotsOk, wellFormed}
+use Rattle.model.specs.Proof.Stays.{controller-ok, plain-stays}
 use Rattle.layout.specs.Change.{put-controller}
+use Rattle.layout.specs.Kept.{encode-controller, encode-open, encode-ready, put-well, same-slot}
 
 -- 1. A block filled ---------------------------------------------------------------------------------------------------------------------------
 
@@ -27,14 +32,17 @@ use Rattle.layout.specs.Change.{put-controller}
 zeroPieces : List Octets
 zeroPieces = map (λ n. replicate n 0) sizes
 
+-- they have their sizes
 zero-sized : lengths zeroPieces ≡ sizes
 unfolding zeroPieces lengths sizes
 zero-sized = refl
 
+-- joined, they are the block of an absent index
 zero-block : (o : Option OpenCommand) → block none o ≡ join zeroPieces
 unfolding zeroPieces join sizes block
 zero-block o = refl
 
+-- the hardware fills its piece
 length-hardware : (f : Hardware) → length (f .publicAddress) ≡ 6 → length (hardwarePart f) ≡ 13
 unfolding hardwarePart le16 le32
 length-hardware f n = omega arith
@@ -55,9 +63,11 @@ two-parts d b f =
     rw e (sym (write-split d (b + 6) (hardwareHead f) (f .publicAddress)))
 
 module _ (s : Octets) (i : ℕ) (f : Hardware) (ok : stateOk s ≡ true) (l : i < 4) (gone : presentAt s i ≡ false) (n : length (f .publicAddress) ≡ 6) where
+  -- the shape of the hub
   shape : Shaped (decode s) i
   shape = shaped (decode s) i (state-well s ok) l
 
+  -- the block of the absent index is those pieces
   zero-now : s ≡ withBlock (decode s) i (join zeroPieces)
   zero-now = state-back s ok ∙ state-is (decode s) i (shape .below) ∙ rw (absent-slot s i l gone, zero-block (getD (decode s .openCommands) i none))
 
@@ -78,6 +88,7 @@ module _ (s : Octets) (i : ℕ) (f : Hardware) (ok : stateOk s ≡ true) (l : i 
       ∙ piece-write h i shape qs y 3 4 (flag (leSupported f) 1 ∷ []) (lit< tt) (lit≤ tt)
       ∙ ap (λ (x : List Octets). withBlock h i (join x)) (filled-pieces f n)
 
+  -- with the pieces of a controller just plugged, the state is that of the hub with it
   plugged-state : withBlock (decode s) i (join (pieces (plugged f) none)) ≡ encode (putController (decode s) i (plugged f))
   unfolding openAt
   plugged-state =
@@ -94,13 +105,78 @@ module _ (s : Octets) (i : ℕ) (f : Hardware) (ok : stateOk s ≡ true) (l : i 
       let g = three-writes in
       rw (two-parts (writeAt s (base i) (1 ∷ [])) (base i) f, e) ((simp add-zero at g) ∙ plugged-state)
 
--- 2. The clock --------------------------------------------------------------------------------------------------------------------------------
+-- the fresh hub is valid
+fresh-fine : plainOk fresh ≡ true
+unfolding plainOk fresh slotsOk slotOk
+fresh-fine = refl
+
+-- what plug leaves, of hardware that it takes
+plug-leaves : (f : Hardware) (b : Bool) → b ≡ true → stateOf fresh (elim b [ true ↦ finished (event 4 0 []) (withController fresh 0 (some (plugged f))) | false ↦ badArgument ]) ≡ withController fresh 0 (some (plugged f))
+unfolding stateOf
+plug-leaves f true e = refl
+plug-leaves f false e = no-way (sym e)
+
+-- what plug makes is valid, if what it is given is
+pub plugged-fine : (f : Hardware) → hardwareOk f ≡ true → hardwareWide f ≡ true → controllerOk (plugged f) ≡ true
+unfolding callPlain within plugOut controllerAt fresh callWide withController
+plugged-fine f k w =
+    let p : plainOk (withController fresh 0 (some (plugged f))) ≡ true = rw (plug-leaves f (hardwareOk f) k) at (plain-stays fresh fresh-fine (plug 1024 0 f) w) in
+    controller-ok (withController fresh 0 (some (plugged f))) 0 (plugged f) p refl
+
+module _ (s : Octets) (i : ℕ) (f : Hardware) (ok : stateOk s ≡ true) (l : i < 4) (gone : presentAt s i ≡ false) (k : hardwareOk f ≡ true) (w : hardwareWide f ≡ true) where
+  -- nothing is under way there
+  idle-there : underWay (decode s) i ≡ none
+  unfolding underWay openAt
+  idle-there = absent-open s i l gone
+
+  -- the hub with what plug made holds it
+  plugged-there : controllerAt (putController (decode s) i (plugged f) .plain) i ≡ some (plugged f)
+  unfolding putController
+  plugged-there = same-slot (decode s .plain) i (some (plugged f)) l (shaped (decode s) i (state-well s ok) l .below)
+
+  -- after plug the state is well formed, and holds what plug made
+  pub filled-well : wellFormed (putController (decode s) i (plugged f)) ≡ true
+  unfolding openOk
+  filled-well = put-well (decode s) i (plugged f) (state-well s ok) (plugged-fine f k w) (rw idle-there)
+
+  -- the index is present
+  pub filled-ready : Ready (encode (putController (decode s) i (plugged f))) i
+  filled-ready = encode-ready (putController (decode s) i (plugged f)) filled-well i (plugged f) plugged-there
+
+  -- with the controller that plug makes
+  pub filled-now : controllerOf (encode (putController (decode s) i (plugged f))) i ≡ plugged f
+  filled-now = encode-controller (putController (decode s) i (plugged f)) filled-well i (plugged f) plugged-there
+
+  -- and nothing under way
+  pub filled-open : openAt (encode (putController (decode s) i (plugged f))) i ≡ none
+  unfolding putController underWay
+  filled-open = encode-open (putController (decode s) i (plugged f)) filled-well i ∙ idle-there
+
+-- 2. The fresh state --------------------------------------------------------------------------------------------------------------------------
+
+-- it is well formed
+pub fresh-well : wellFormed (idle fresh) ≡ true
+fresh-well = idle-ok fresh fresh-fine
+
+-- zeros are the fresh state
+fresh-zeros : (n : ℕ) → n ≡ 16116 → replicate n 0 ≡ encode (idle fresh)
+unfolding encode idle fresh blocks block le32
+fresh-zeros n e = rw e
+
+-- a state of the right length made zero
+pub state-cleared : (s : Octets) (n : ℕ) → length s ≡ 16116 → n ≡ 16116 → writeAt s 0 (replicate n 0) ≡ encode (idle fresh)
+state-cleared s n e m =
+    let z : length (replicate {A = ℕ} n 0) ≡ length s = length-replicate {A = ℕ} n 0 ∙ m ∙ sym e in
+    write-whole s (replicate n 0) z ∙ fresh-zeros n m
+
+-- 3. The clock --------------------------------------------------------------------------------------------------------------------------------
 
 -- the number at the start, over the number that stands there
 clock-over : (v w : ℕ) (x : Octets) → writeAt (le32 v ++ x) 0 (le32 w) ≡ le32 w ++ x
 unfolding writeAt le32
 clock-over v w x = refl
 
+-- the clock written anew
 pub clock-changed : (s : Octets) (v : ℕ) → stateOk s ≡ true → writeAt s 0 (le32 v) ≡ encode (withClock (decode s) v)
 unfolding encode withClock
 clock-changed s v ok = ap (λ (x : Octets). writeAt x 0 (le32 v)) (state-back s ok) ∙ clock-over _ v _

@@ -1,28 +1,27 @@
 -- After a write the state is well formed again, and stands for the changed hub: so a command may write twice.
 use mathlib.Core.Path.{_≡_, refl, ap, sym, _∙_}
-use Prim.Native.Nat.{ℕ, zero, suc, _+_, _*_, _^_, _≤_, _<_}
+use Prim.Native.Nat.{ℕ, zero, suc, _<_}
 use native.Mathlib.Omega.{arith}
-use mathlib.Core.Bool.{Bool, true, false, _&&_}
-use mathlib.Core.List.{List, [], _∷_, _++_}
+use mathlib.Core.Bool.{Bool, true, false}
+use mathlib.Core.List.{List, [], _∷_}
 use mathlib.Core.Option.{Option, none, some}
 use lib.ListN.{length, getD, set, length-set}
 use lib.Seq.{getD-set-other, getD-set-same}
-use lib.Dec.{eqb, ltb}
+use lib.Dec.{ltb}
 use borrow.Author.Tests.{lt-ltb}
-use Rattle.model.specs.Octets.{Octets, bytes}
+use Rattle.model.specs.Octets.{Octets}
 use Rattle.model.specs.State.{Controller, Host, Hub, OpenCommand, PlainHub, controllerAt, withController, withHost}
-use Rattle.model.specs.Hub.{starts, underWay, withOpen}
-use Rattle.model.specs.WellFormed.{controllerOk, openOk, opensOk, plainOk, slotOk, slotsOk, wellFormed}
+use Rattle.model.specs.Hub.{underWay, withOpen}
+use Rattle.model.specs.WellFormed.{controllerOk, openOk, opensOk, plainOk, slotOk, wellFormed}
 use Rattle.model.specs.Layout.{decode, encode}
-use Rattle.model.specs.Meanings.{stateOk}
 use Rattle.model.specs.Proof.Decode.{decode-encode}
-use Rattle.model.specs.Proof.Demand3.{encode-ok, state-back, state-well}
+use Rattle.model.specs.Proof.Demand3.{encode-ok, state-well}
 use Rattle.model.specs.Proof.Stays.{fit-plain, plain-fit, slots-set}
 use Rattle.model.specs.Proof.Tables.{lt-true}
-use Rattle.model.specs.Proof.Tests.{and-true, both, equal, no-way}
+use Rattle.model.specs.Proof.Tests.{and-true, both, no-way}
 use Rattle.layout.specs.Places.{Ready, controllerOf, emptied, openAt, presentAt, putController, ready, withClock}
 use Rattle.layout.specs.Reads.{absent-controller, present-controller, present-slot}
-use Rattle.layout.specs.Lens.{Shaped, shaped, withSlot}
+use Rattle.layout.specs.Lens.{shaped, withSlot}
 use Rattle.layout.specs.Change.{controller-fine, put-controller, put-none, put-open}
 
 -- 1. Well-formed hubs, changed ------------------------------------------------------------------------------------------------------------------
@@ -37,6 +36,7 @@ opens-set (s ∷ ss) [] i x o e n = no-way (sym e)
 opens-set (s ∷ ss) (p ∷ os) zero x o e n = both n (and-true (openOk s p) _ e .1)
 opens-set (s ∷ ss) (p ∷ os) (suc i) x o e n = let a = and-true (openOk s p) _ e in both (a .0) (opens-set ss os i x o (a .1) n)
 
+-- leave a well-formed hub so, if the two fit
 pub slot-well : (h : Hub) (i : ℕ) (x : Option Controller) (o : Option OpenCommand) → wellFormed h ≡ true → slotOk x ≡ true → openOk x o ≡ true → wellFormed (withSlot h i x o) ≡ true
 unfolding wellFormed withSlot withController
 slot-well h i x o e k n =
@@ -140,9 +140,11 @@ opens-at (s ∷ ss) (o ∷ os) zero e = and-true (openOk s o) _ e .0
 opens-at (s ∷ ss) (o ∷ os) (suc i) e = opens-at ss os i (and-true (openOk s o) _ e .1)
 
 module _ (s : Octets) (i : ℕ) (r : Ready s i) where
+  -- the hub is well formed
   well : wellFormed (decode s) ≡ true
   well = state-well s (r .ok)
 
+  -- the index has a slot
   slots : i < length (decode s .plain .controllers)
   slots = shaped (decode s) i well (r .below) .below
 
@@ -158,66 +160,81 @@ module _ (s : Octets) (i : ℕ) (r : Ready s i) where
   unfolding withHost
   host-fine h = same-radio (withHost (controllerOf s i) h) (controllerOf s i) (openAt s i) refl ∙ open-fine
 
-  -- after a write to the controller
+  -- After a write to the controller:
   module _ (c : Controller) (k : controllerOk c ≡ true) (n : openOk (some c) (openAt s i) ≡ true) where
+    -- the hub is well formed
     pub controller-well : wellFormed (putController (decode s) i c) ≡ true
     unfolding openAt underWay
     controller-well = put-well (decode s) i c well k n
 
+    -- it holds the new controller
     controller-there : controllerAt (putController (decode s) i c .plain) i ≡ some c
     unfolding putController
     controller-there = same-slot (decode s .plain) i (some c) (r .below) slots
 
+    -- the index is present in a well-formed state
     pub controller-ready : Ready (encode (putController (decode s) i c)) i
     controller-ready = encode-ready (putController (decode s) i c) controller-well i c controller-there
 
+    -- with the new controller
     pub controller-back : controllerOf (encode (putController (decode s) i c)) i ≡ c
     controller-back = encode-controller (putController (decode s) i c) controller-well i c controller-there
 
+    -- the state means the changed hub
     pub controller-decoded : decode (encode (putController (decode s) i c)) ≡ putController (decode s) i c
     controller-decoded = decode-encode (putController (decode s) i c) controller-well
 
+    -- the command under way is as it was
     pub controller-open : openAt (encode (putController (decode s) i c)) i ≡ openAt s i
     unfolding openAt putController
     controller-open = rw controller-decoded
 
-    -- elsewhere
+    -- what another index holds is as it was
     pub other-decoded : (j : ℕ) → (j ≡ i → ⊥) → controllerAt (decode (encode (putController (decode s) i c)) .plain) j ≡ controllerAt (decode s .plain) j
     unfolding putController
     other-decoded j d = rw controller-decoded (other-slot (decode s .plain) i j (some c) d)
 
+    -- another index stays present
     pub other-ready : (j : ℕ) → (j ≡ i → ⊥) → Ready s j → Ready (encode (putController (decode s) i c)) j
     unfolding putController
     other-ready j d q =
         encode-ready (putController (decode s) i c) controller-well j (controllerOf s j) (other-slot (decode s .plain) i j (some c) d ∙ present-controller s j q)
 
+    -- with the same controller
     pub other-controller : (j : ℕ) → (j ≡ i → ⊥) → Ready s j → controllerOf (encode (putController (decode s) i c)) j ≡ controllerOf s j
     unfolding putController
     other-controller j d q =
         encode-controller (putController (decode s) i c) controller-well j (controllerOf s j) (other-slot (decode s .plain) i j (some c) d ∙ present-controller s j q)
 
+    -- another absent index stays absent
     pub other-absent : (j : ℕ) → (j ≡ i → ⊥) → presentAt s j ≡ false → presentAt (encode (putController (decode s) i c)) j ≡ false
     unfolding putController
     other-absent j d q = encode-absent (putController (decode s) i c) controller-well j (other-slot (decode s .plain) i j (some c) d ∙ absent-controller s j q)
 
-  -- after a write to the open command
+  -- After a write to the open command:
   module _ (o : Option OpenCommand) (n : openOk (some (controllerOf s i)) o ≡ true) where
+    -- the hub is well formed
     pub opened-well : wellFormed (withOpen (decode s) i o) ≡ true
     opened-well = open-well (decode s) i (controllerOf s i) o well (present-slot s i (r .here)) (controller-fine s i r) n
 
+    -- it holds the same controller
     opened-there : controllerAt (withOpen (decode s) i o .plain) i ≡ some (controllerOf s i)
     unfolding withOpen
     opened-there = present-controller s i r
 
+    -- the index is present in a well-formed state
     pub opened-ready : Ready (encode (withOpen (decode s) i o)) i
     opened-ready = encode-ready (withOpen (decode s) i o) opened-well i (controllerOf s i) opened-there
 
+    -- with the same controller
     pub opened-controller : controllerOf (encode (withOpen (decode s) i o)) i ≡ controllerOf s i
     opened-controller = encode-controller (withOpen (decode s) i o) opened-well i (controllerOf s i) opened-there
 
+    -- the state means the changed hub
     pub opened-decoded : decode (encode (withOpen (decode s) i o)) ≡ withOpen (decode s) i o
     opened-decoded = decode-encode (withOpen (decode s) i o) opened-well
 
+    -- with the new command under way, or none
     pub opened-back : openAt (encode (withOpen (decode s) i o)) i ≡ o
     unfolding openAt withOpen
     opened-back = rw opened-decoded (getD-set-same (decode s .openCommands) i o none (shaped (decode s) i well (r .below) .beside))

@@ -1,17 +1,17 @@
 -- The lent state as pieces at places: a write inside a piece of a block is a change of that piece, and a changed block is a changed hub.
 use mathlib.Core.Path.{_≡_, refl, ap, sym, _∙_}
-use Prim.Native.Nat.{ℕ, zero, suc, _+_, _*_, _-_, _≤_, _<_}
+use Prim.Native.Nat.{ℕ, zero, suc, _+_, _*_, _≤_, _<_}
 use native.Mathlib.Omega.{arith}
 use native.Mathlib.Nat.{add-zero}
-use mathlib.Core.Bool.{Bool, true, false, _&&_}
+use mathlib.Core.Bool.{true}
 use mathlib.Core.List.{List, [], _∷_, _++_}
 use mathlib.Core.Option.{Option, none, some}
-use lib.ListN.{length, getD, take, drop, set, length-append, length-set}
+use lib.ListN.{length, getD, drop, set, length-append, length-set}
 use lib.Seq.{getD-set-same, set-set, set-getD}
 use lib.Dec.{eqb}
 use Rattle.model.specs.declared.Hardware.{Hardware}
 use Rattle.model.specs.Octets.{Octets, le16, le32}
-use Rattle.model.specs.State.{Controller, Hub, OpenCommand, PlainHub, Table, hardwareOk, settingsOf, withController}
+use Rattle.model.specs.State.{Controller, Hub, OpenCommand, Table, hardwareOk, settingsOf, withController}
 use Rattle.model.specs.Tables.{TableRule, blockedRule, deviceRule, identityKeyRule, linkKeyRule, longTermKeyRule, tableRules, uuidRule}
 use Rattle.model.specs.Image.{radioOk}
 use Rattle.model.specs.WellFormed.{controllerOk, openOk, opensOk, plainOk, slotOk, slotsOk, tableOk, tablesOk, wellFormed}
@@ -96,12 +96,14 @@ even-place [] i l e = absurd (omega arith)
 even-place (p ∷ ps) zero l e = refl
 even-place (p ∷ ps) (suc i) l e = rw (e .0, even-place ps i (omega arith) (e .1)) (omega arith)
 
+-- so it stays with a piece of that length in the place of another
 even-set : (ps : List Octets) (i : ℕ) (p : Octets) → length p ≡ 4028 → Even ps → Even (set ps i p)
 unfolding Even
 even-set [] i p n e = e
 even-set (q ∷ ps) zero p n e = (n, e .1)
 even-set (q ∷ ps) (suc i) p n e = (e .0, even-set ps i p n (e .1))
 
+-- and so are the blocks of valid slots
 even-blocks : (ss : List (Option Controller)) (os : List (Option OpenCommand)) → slotsOk ss ≡ true → Even (blockPieces ss os)
 unfolding Even blockPieces slotsOk
 even-blocks [] os e = tt
@@ -135,21 +137,25 @@ shaped h i e l =
 
 -- 4. Lengths of pieces --------------------------------------------------------------------------------------------------------------------------
 
+-- the length of piece k
 got : (ps : List Octets) (k : ℕ) → getD (lengths ps) k 0 ≡ length (getD ps k [])
 unfolding lengths
 got [] k = refl
 got (p ∷ ps) zero = refl
 got (p ∷ ps) (suc k) = got ps k
 
+-- as many lengths as pieces
 length-lengths : (ps : List Octets) → length (lengths ps) ≡ length ps
 unfolding lengths
 length-lengths [] = refl
 length-lengths (p ∷ ps) = ap suc (length-lengths ps)
 
+-- the sum of the lengths
 total : List ℕ → ℕ
 total [] = 0
 total (n ∷ ns) = n + total ns
 
+-- a piece lies inside the whole
 place-fits : (ns : List ℕ) (k : ℕ) → placeAt ns k + getD ns k 0 ≤ total ns
 unfolding placeAt total
 place-fits [] zero = omega arith
@@ -162,29 +168,34 @@ pub inside : (k : ℕ) → placeAt sizes k + getD sizes k 0 ≤ 4028
 unfolding total sizes
 inside k = place-fits sizes k
 
+-- the pieces joined are as long as their sum
 length-join : (ps : List Octets) → length (join ps) ≡ total (lengths ps)
 unfolding join lengths total
 length-join [] = refl
 length-join (p ∷ ps) = length-append p (join ps) ∙ rw (length-join ps)
 
+-- a piece as long as the one before it leaves the lengths
 lengths-set : (ps : List Octets) (k : ℕ) (p : Octets) → length p ≡ length (getD ps k []) → lengths (set ps k p) ≡ lengths ps
 unfolding lengths
 lengths-set [] k p e = refl
 lengths-set (q ∷ ps) zero p e = rw e
 lengths-set (q ∷ ps) (suc k) p e = rw (lengths-set ps k p e)
 
--- a write inside a piece, which leaves the sizes
+-- a write inside a piece
 unfoldable pub writeIn : List Octets → ℕ → ℕ → Octets → List Octets
 writeIn ps k a w = set ps k (writeAt (getD ps k []) a w)
 
+-- it leaves the sizes
 pub write-in-sized : (ps : List Octets) (k a : ℕ) (w : Octets) → lengths ps ≡ sizes → lengths (writeIn ps k a w) ≡ sizes
 unfolding writeIn
 write-in-sized ps k a w z = lengths-set ps k (writeAt (getD ps k []) a w) (length-writeAt (getD ps k []) a w) ∙ z
 
+-- the sizes of the tables, by their rules
 sizesOf : List TableRule → List ℕ
 sizesOf [] = []
 sizesOf (u ∷ us) = (4 + u .size * 32) ∷ sizesOf us
 
+-- valid tables have them
 region-sizes : (f : Hardware) (us : List TableRule) (ts : List Table) → tablesOk f us ts ≡ true → lengths (regionPieces us ts) ≡ sizesOf us
 unfolding lengths regionPieces sizesOf tablesOk
 region-sizes f [] [] e = refl
@@ -214,28 +225,33 @@ unfolding le32
 behind x u v = omega arith
 
 module _ (h : Hub) (i : ℕ) (s : Shaped h i) (b : Octets) (z : length b ≡ 4028) where
+  -- the blocks, with b in place i
   blocksNow : List Octets
   blocksNow = set (blockPieces (h .plain .controllers) (h .openCommands)) i b
 
+  -- i is one of them
   now-below : i < length blocksNow
   unfolding blocksNow
   now-below = rw (length-set, length-pieces (h .plain .controllers) (h .openCommands)) (s .below)
 
+  -- block i begins behind i blocks
   now-place : placeAt (lengths blocksNow) i ≡ 4028 * i
   unfolding blocksNow
   now-place = even-place blocksNow i now-below (even-set (blockPieces (h .plain .controllers) (h .openCommands)) i b z (s .even))
 
+  -- block i is b
   now-get : getD blocksNow i [] ≡ b
   unfolding blocksNow
   now-get = getD-set-same (blockPieces (h .plain .controllers) (h .openCommands)) i b [] (rw (length-pieces (h .plain .controllers) (h .openCommands)) (s .below))
 
-  -- reading and writing in block i
+  -- reading in block i
   pub block-read : (a n : ℕ) → a + n ≤ 4028 → part (withBlock h i b) (base i + a) n ≡ part b a n
   unfolding withBlock blocksNow
   block-read a n f =
       let j = join-read blocksNow i a n (rw (now-get, z) f) in
       rw (behind (h .plain .clock) (4028 * i) a) (part-right (le32 (h .plain .clock)) (join blocksNow) (4028 * i + a) n ∙ (rw (now-place, now-get) at j))
 
+  -- writing in block i
   pub block-write : (a : ℕ) (w : Octets) → a + length w ≤ 4028 → writeAt (withBlock h i b) (base i + a) w ≡ withBlock h i (writeAt b a w)
   unfolding withBlock blocksNow
   block-write a w f =
@@ -249,18 +265,21 @@ module _ (h : Hub) (i : ℕ) (s : Shaped h i) (b : Octets) (z : length b ≡ 402
   block-put w n = (rw add-zero at (block-write 0 w (omega arith))) ∙ ap (λ (x : Octets). withBlock h i x) (write-whole b w (n ∙ sym z))
 
 module _ (h : Hub) (i : ℕ) (s : Shaped h i) (ps : List Octets) (z : lengths ps ≡ sizes) where
+  -- each piece has its size
   pub piece-length : (k : ℕ) → length (getD ps k []) ≡ getD sizes k 0
   piece-length k = sym (got ps k) ∙ rw z
 
+  -- eleven pieces
   eleven : length ps ≡ 11
   unfolding sizes
   eleven = sym (length-lengths ps) ∙ rw z
 
+  -- joined, they are as long as a block
   pub all-long : length (join ps) ≡ 4028
   unfolding sizes total
   all-long = length-join ps ∙ rw z
 
-  -- reading and writing in piece k of block i
+  -- reading in piece k of block i
   pub piece-read : (k a n : ℕ) → a + n ≤ getD sizes k 0 → part (withBlock h i (join ps)) (placeOf i k + a) n ≡ part (getD ps k []) a n
   unfolding placeOf
   piece-read k a n f =
@@ -268,6 +287,7 @@ module _ (h : Hub) (i : ℕ) (s : Shaped h i) (ps : List Octets) (z : lengths ps
       let q = join-read ps k a n (rw (piece-length k) f) in
       rw e (block-read h i s (join ps) all-long (placeAt sizes k + a) n (omega (arith, inside k)) ∙ (rw z at q))
 
+  -- writing in piece k of block i
   pub piece-write : (k a : ℕ) (w : Octets) → k < 11 → a + length w ≤ getD sizes k 0 → writeAt (withBlock h i (join ps)) (placeOf i k + a) w ≡ withBlock h i (join (writeIn ps k a w))
   unfolding placeOf writeIn
   piece-write k a w l f =

@@ -1,12 +1,11 @@
 -- The open command of a present index, where it lies: its code, 0 where nothing is under way, then three octets of parameters.
 use mathlib.Core.Path.{_≡_, refl, ap, sym, _∙_}
-use Prim.Native.Nat.{ℕ, zero, suc, _+_, _*_, _-_, _≤_, _<_}
+use Prim.Native.Nat.{ℕ, _+_, _-_, _≤_}
 use native.Mathlib.Omega.{arith}
-use native.Mathlib.Nat.{add-zero}
-use mathlib.Core.Bool.{Bool, true, false, _&&_}
-use mathlib.Core.List.{List, [], _∷_, _++_}
+use mathlib.Core.Bool.{Bool, true, false}
+use mathlib.Core.List.{[], _∷_, _++_}
 use mathlib.Core.Option.{Option, none, some}
-use lib.ListN.{length, getD, take, drop, replicate, length-append}
+use lib.ListN.{length, take, drop, replicate}
 use lib.Seq.{drop-drop, getD-drop}
 use lib.Dec.{eqb}
 use borrow.Author.Tests.{eq-eqb, eqb-false, eqb-true, ne-eqb}
@@ -15,11 +14,11 @@ use Rattle.model.specs.State.{Controller, OpenCommand}
 use Rattle.model.specs.Commands.{rule}
 use Rattle.model.specs.Hub.{starts, withOpen}
 use Rattle.model.specs.WellFormed.{openOk}
-use Rattle.model.specs.Layout.{decode, encode, openBack, openIn, openPart, openWith, sizeOf}
+use Rattle.model.specs.Layout.{decode, encode, openBack, openPart, openWith, sizeOf}
 use Rattle.model.specs.Proof.Decode.{Started, started-by}
-use Rattle.model.specs.Proof.Tests.{and-true, no-way}
+use Rattle.model.specs.Proof.Tests.{and-true}
 use Rattle.octets.specs.Parts.{getD-part, part, part-part, placeAt, write-split, writeAt}
-use Rattle.layout.specs.Places.{Ready, base, controllerOf, openAt, placeOf, presentAt, sizes}
+use Rattle.layout.specs.Places.{Ready, base, controllerOf, openAt, placeOf, sizes}
 use Rattle.layout.specs.Reads.{block-open, open-some, present-octet}
 use Rattle.layout.specs.Change.{open-changed}
 use Rattle.layout.specs.Kept.{open-fine}
@@ -40,11 +39,12 @@ open-by s i r =
     let a = present-octet s i (r .here) in
     block-open s i (r .below) ∙ open-some (part s (base i) 4028) (a .1) ∙ rw (code-at s (base i), drop-drop 2 1 (part s (base i) 4028))
 
--- the cases of the code
+-- a code of 0
 with-zero : (code : ℕ) (ps : Octets) → code ≡ 0 → openWith code ps ≡ none
 unfolding openWith
 with-zero code ps e = rw (eq-eqb code 0 e, openWith)
 
+-- a code that is not 0
 with-code : (code : ℕ) (ps : Octets) → (code ≡ 0 → ⊥) → openWith code ps ≡ some (record { code = code; params = take (sizeOf (rule code)) ps })
 unfolding openWith
 with-code code ps e = rw (ne-eqb code 0 e, openWith)
@@ -54,6 +54,7 @@ started : (c : Controller) (o : OpenCommand) → openOk (some c) (some o) ≡ tr
 unfolding openOk starts
 started c o e = started-by (c .radio) o (rule (o .code)) refl (and-true (starts (c .radio) o) _ e .0)
 
+-- an open command of its two parts
 openOf : ℕ → Octets → OpenCommand
 openOf code ps = record { code = code; params = ps }
 

@@ -1,21 +1,19 @@
 -- Reading by places: `decode` is reading at fixed places, so each read is said in the model's words and holds of any octets.
 use mathlib.Core.Path.{_≡_, refl, ap, sym, _∙_}
-use Prim.Native.Nat.{ℕ, zero, suc, _+_, _*_, _-_, _≤_, _<_}
+use Prim.Native.Nat.{ℕ, zero, suc, _+_, _*_, _≤_, _<_}
 use native.Mathlib.Omega.{arith}
 use native.Mathlib.Nat.{add-zero}
-use mathlib.Core.Bool.{Bool, true, false, _&&_}
-use mathlib.Core.List.{List, [], _∷_, _++_}
+use mathlib.Core.Bool.{Bool, true, false}
 use mathlib.Core.Option.{Option, none, some}
-use lib.ListN.{length, getD, take, drop}
+use lib.ListN.{getD, take, drop}
 use lib.Seq.{getD-drop, drop-drop}
 use lib.Dec.{eqb, ltb, lit<, lit≤}
 use borrow.Author.Tests.{lt-ltb, ltb-true}
 use Rattle.model.specs.declared.Hardware.{Hardware}
 use Rattle.model.specs.declared.Settings.{Settings}
 use Rattle.model.specs.Octets.{Octets, u16, u32}
-use Rattle.model.specs.State.{Controller, OpenCommand, controllerAt, settingsOf}
-use Rattle.model.specs.Commands.{rule}
-use Rattle.model.specs.Layout.{controllerBack, controllerIn, controllersIn, decode, openBack, openIn, openWith, opensIn, sizeOf}
+use Rattle.model.specs.State.{Controller, controllerAt, settingsOf}
+use Rattle.model.specs.Layout.{controllerBack, controllerIn, controllersIn, decode, openBack, openIn, opensIn}
 use Rattle.model.specs.Proof.Tests.{and-true}
 use Rattle.octets.specs.Parts.{part, getD-part, part-part, placeAt}
 use Rattle.layout.specs.Places.{Ready, base, controllerOf, openAt, placeOf, presentAt, sizes}
@@ -45,11 +43,12 @@ block-octets : (s : Octets) (i : ℕ) → part (drop 4 s) (4028 * i) 4028 ≡ pa
 unfolding part
 block-octets s i = rw (drop-drop (4028 * i) 4 s)
 
--- the same, of the decoded state
+-- the controller of block i of the decoded state
 block-controller : (s : Octets) (i : ℕ) → i < 4 → getD (decode s .plain .controllers) i none ≡ controllerIn (part s (base i) 4028)
 unfolding decode
 block-controller s i l = controllers-at 4 (drop 4 s) i l ∙ ap controllerIn (block-octets s i)
 
+-- and its open command
 pub block-open : (s : Octets) (i : ℕ) → i < 4 → openAt s i ≡ openIn (part s (base i) 4028)
 unfolding decode openAt
 block-open s i l = opens-at 4 (drop 4 s) i l ∙ ap openIn (block-octets s i)
@@ -58,19 +57,22 @@ block-open s i l = opens-at 4 (drop 4 s) i l ∙ ap openIn (block-octets s i)
 first-octet : (s : Octets) (i : ℕ) → getD (part s (base i) 4028) 0 0 ≡ getD s (base i) 0
 first-octet s i = getD-part s (base i) 4028 0 (omega arith) ∙ rw add-zero
 
--- what the first octet says
+-- by the first octet: a controller
 controller-some : (o : Octets) → eqb (getD o 0 0) 1 ≡ true → controllerIn o ≡ some (controllerBack (drop 6 o))
 unfolding controllerIn
 controller-some o e = rw (e, controllerIn)
 
+-- no controller
 controller-none : (o : Octets) → eqb (getD o 0 0) 1 ≡ false → controllerIn o ≡ none
 unfolding controllerIn
 controller-none o e = rw (e, controllerIn)
 
+-- an open command, or none by its code
 pub open-some : (o : Octets) → eqb (getD o 0 0) 1 ≡ true → openIn o ≡ openBack (drop 1 o)
 unfolding openIn
 open-some o e = rw (e, openIn)
 
+-- no open command
 open-none : (o : Octets) → eqb (getD o 0 0) 1 ≡ false → openIn o ≡ none
 unfolding openIn
 open-none o e = rw (e, openIn)
@@ -89,21 +91,25 @@ present-slot s i e =
     let a = present-octet s i e in
     block-controller s i (a .0) ∙ controller-some (part s (base i) 4028) (a .1)
 
+-- so does the hub
 pub present-controller : (s : Octets) (i : ℕ) → Ready s i → controllerAt (decode s .plain) i ≡ some (controllerOf s i)
 unfolding controllerAt
 present-controller s i r = rw (lt-ltb i 4 (r .below), controllerAt) (present-slot s i (r .here))
 
--- an absent index below 4 holds no controller, and nothing is under way there
+-- an absent index below 4: the first octet is not 1
 absent-octet : (s : Octets) (i : ℕ) → i < 4 → presentAt s i ≡ false → eqb (getD (part s (base i) 4028) 0 0) 1 ≡ false
 unfolding presentAt
 absent-octet s i l e = rw (first-octet s i) (rw (lt-ltb i 4 l) at e)
 
+-- no controller
 pub absent-slot : (s : Octets) (i : ℕ) → i < 4 → presentAt s i ≡ false → getD (decode s .plain .controllers) i none ≡ none
 absent-slot s i l e = block-controller s i l ∙ controller-none (part s (base i) 4028) (absent-octet s i l e)
 
+-- nothing under way
 pub absent-open : (s : Octets) (i : ℕ) → i < 4 → presentAt s i ≡ false → openAt s i ≡ none
 absent-open s i l e = block-open s i l ∙ open-none (part s (base i) 4028) (absent-octet s i l e)
 
+-- so does the hub, whatever the index
 pub absent-controller : (s : Octets) (i : ℕ) → presentAt s i ≡ false → controllerAt (decode s .plain) i ≡ none
 unfolding controllerAt
 absent-controller s i e = go (ltb i 4) refl
@@ -114,20 +120,23 @@ absent-controller s i e = go (ltb i 4) refl
 
 -- 3. The parts of a controller ----------------------------------------------------------------------------------------------------------------
 
--- octets, parts and numbers of a controller, in the block and in the state
+-- what stands in the block of a controller stands in the state: an octet
 octet-at : (s : Octets) (b k : ℕ) → k < 4022 → getD (drop 6 (part s b 4028)) k 0 ≡ getD s (b + (6 + k)) 0
 octet-at s b k h = getD-drop 6 (part s b 4028) k 0 ∙ getD-part s b 4028 (6 + k) (omega arith)
 
+-- a part
 part-at : (s : Octets) (b k n : ℕ) → 6 + k + n ≤ 4028 → take n (drop k (drop 6 (part s b 4028))) ≡ part s (b + (6 + k)) n
 unfolding part
 part-at s b k n h = rw (drop-drop k 6 (part s b 4028)) (part-part s b 4028 (6 + k) n h)
 
+-- a number of two octets
 u16-at : (s : Octets) (b k : ℕ) → k < 4021 → u16 (drop 6 (part s b 4028)) k ≡ u16 s (b + (6 + k))
 unfolding u16
 u16-at s b k h =
     let e : b + (6 + (k + 1)) ≡ b + (6 + k) + 1 = omega arith in
     rw (octet-at s b k (omega arith), octet-at s b (k + 1) (omega arith), e)
 
+-- a number of four octets
 u32-at : (s : Octets) (b k : ℕ) → k < 4019 → u32 (drop 6 (part s b 4028)) k ≡ u32 s (b + (6 + k))
 unfolding u32
 u32-at s b k h =
@@ -138,6 +147,7 @@ u32-at s b k h =
 unfoldable pub hardwareFrom : Octets → ℕ → Hardware
 hardwareFrom s b = record { publicAddress = part s (b + 13) 6; version = getD s (b + 6) 0; manufacturer = u16 s (b + 7); supported = u32 s (b + 9) }
 
+-- it is the controller's hardware
 pub hardware-at : (s : Octets) (i : ℕ) → hardwareFrom s (base i) ≡ controllerOf s i .radio .hardware
 unfolding hardwareFrom controllerOf controllerBack
 hardware-at s i =
@@ -157,6 +167,7 @@ settingsFrom s b f = record {
   host = record { timer = record { discoverable = eqb (getD s (b + 21) 0) 1; seconds = u16 s (b + 24) }; bondable = eqb (getD s (b + 22) 0) 1 };
 }
 
+-- they are the controller's settings
 pub settings-at : (s : Octets) (i : ℕ) → settingsFrom s (base i) (controllerOf s i .radio .hardware) ≡ settingsOf (controllerOf s i)
 unfolding settingsFrom settingsOf controllerOf controllerBack
 settings-at s i =

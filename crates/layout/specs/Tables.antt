@@ -1,12 +1,12 @@
 -- The six tables of a present controller, where they lie: each region read and stored whole.
 use mathlib.Core.Path.{_≡_, refl, ap, sym, _∙_}
-use Prim.Native.Nat.{ℕ, zero, suc, _+_, _*_, _-_, _≤_, _<_}
+use Prim.Native.Nat.{ℕ, zero, suc, _+_, _*_, _≤_, _<_}
 use native.Mathlib.Omega.{arith}
 use native.Mathlib.Nat.{add-zero, mul-suc, mul-zero}
-use mathlib.Core.Bool.{Bool, true, false, _&&_}
+use mathlib.Core.Bool.{Bool, true, _&&_}
 use mathlib.Core.List.{List, [], _∷_, _++_, append-nil}
-use mathlib.Core.Option.{Option, none, some}
-use lib.ListN.{length, getD, take, drop, set, replicate, length-append, length-replicate}
+use mathlib.Core.Option.{none, some}
+use lib.ListN.{length, getD, take, drop, set, length-append, length-replicate}
 use lib.Seq.{drop-drop, take-take}
 use lib.Dec.{eqb}
 use Rattle.model.specs.declared.Hardware.{Hardware}
@@ -14,18 +14,19 @@ use Rattle.model.specs.Octets.{Octets, le32, u16, u32}
 use Rattle.model.specs.State.{Controller, Table, settingsOf, tableOf, withHost, withTable}
 use Rattle.model.specs.Reasons.{passes}
 use Rattle.model.specs.Tables.{TableRule, blockedRule, chop, deviceRule, entries, every, identityKeyRule, linkKeyRule, longTermKeyRule, recordOk, tableRules, uuidRule}
-use Rattle.model.specs.WellFormed.{tableOk, tablesOk}
+use Rattle.model.specs.WellFormed.{controllerOk, tableOk, tablesOk, timerOk, widthsOk}
 use Rattle.model.specs.Layout.{decode, encode, region, slotOctets, slots, tableBack}
-use Rattle.model.specs.Proof.Decode.{length-region, table-back}
+use Rattle.model.specs.Proof.Decode.{table-back}
 use Rattle.model.specs.Proof.Region.{Sized}
-use Rattle.model.specs.Proof.Rows.{controller-fit, ruleAt, table-ok}
+use Rattle.model.specs.Proof.Rows.{controller-fit, fit-controller, ruleAt, table-ok}
 use Rattle.model.specs.Proof.Tables.{table-fit}
-use Rattle.model.specs.Proof.Tests.{and-true, equal, no-way}
+use Rattle.model.specs.Proof.Tests.{and-true, both, equal, no-way}
 use Rattle.octets.specs.Parts.{drop-take, getD-part, part, placeAt, writeAt}
-use Rattle.layout.specs.Places.{Ready, base, controllerOf, openAt, placeOf, putController, sizes, tablePlace}
+use Rattle.layout.specs.Places.{Ready, controllerOf, openAt, placeOf, putController, sizes, tablePlace}
 use Rattle.table.specs.Slots.{tableAt}
 use Rattle.layout.specs.Lens.{inside, pieces, regionPieces}
 use Rattle.layout.specs.Change.{controller-changed, controller-fine, piece-at}
+use Rattle.layout.specs.Kept.{controller-back, controller-ready, host-fine}
 
 -- 1. A table's octets, from the whole or from its region ----------------------------------------------------------------------------------------
 
@@ -37,13 +38,14 @@ chop-take size (suc n) o =
     let e : size * suc n ≡ size + size * n = mul-suc size n ∙ omega arith in
     rw (e, take-take size (size + size * n) o (omega arith), drop-take size (size * n) o, chop-take size n (drop size o))
 
--- numbers in a part
+-- a number of two octets in a part
 u16-part : (s : Octets) (b m k : ℕ) → k + 1 < m → u16 (part s b m) k ≡ u16 s (b + k)
 unfolding u16
 u16-part s b m k h =
     let e : b + (k + 1) ≡ b + k + 1 = omega arith in
     rw (getD-part s b m k (omega arith), getD-part s b m (k + 1) h, e)
 
+-- and of four octets
 u32-part : (s : Octets) (b m : ℕ) → 4 ≤ m → u32 (part s b m) 0 ≡ u32 s b
 unfolding u32
 u32-part s b m h = rw (u16-part s b m 0 (omega arith), u16-part s b m 2 (omega arith), add-zero)
@@ -84,9 +86,11 @@ region-set f (u ∷ us) (x ∷ ts) (suc k) t e = ap {B = List Octets} (λ l. reg
 abbrev pub past5 : ℕ → ℕ
 past5 k = suc (suc (suc (suc (suc k))))
 
+-- as a successor
 five : (k : ℕ) → 5 + k ≡ past5 k
 five k = omega arith
 
+-- there are six rules
 rules-six : length tableRules ≡ 6
 unfolding tableRules
 rules-six = refl
@@ -110,7 +114,7 @@ table-fits i k l m =
     let p : placeAt sizes (past5 k) + getD sizes (past5 k) 0 ≤ 4028 = inside (past5 k) in
     rw (five k) (omega arith)
 
--- records that all have the size, from the model's test and for a region's length
+-- a table whose records all keep a rule of that size has records of that size
 every-sized : (size : ℕ) (g : Octets → Bool) (t : Table) → every (λ r. eqb (length r) size && g r) (entries t) ≡ true → Sized size t
 unfolding Sized slotOctets entries every
 every-sized size g [] e = tt
@@ -119,40 +123,74 @@ every-sized size g (some r ∷ t) e =
     let a = and-true (eqb (length r) size && g r) _ e in
     (equal (length r) size (and-true (eqb (length r) size) _ (a .0) .0), every-sized size g t (a .1))
 
+-- so in a valid table
+pub fine-sized : (u : TableRule) (f : Hardware) (t : Table) → tableOk u f t ≡ true → Sized (u .size) t
+unfolding recordOk
+fine-sized u f t e = every-sized (u .size) (λ x. passes (u .checks x)) t (table-fit u f t e .each)
+
+-- the length of slots, and of a region
 sized-slots : (size : ℕ) (t : Table) → Sized size t → length (slots size t) ≡ size * length t
 unfolding Sized slots
 sized-slots size [] z = sym (mul-zero size)
 sized-slots size (x ∷ t) z = length-append (slotOctets size x) (slots size t) ∙ omega (arith, z .0, sized-slots size t (z .1), mul-suc size (length t))
 
+-- a table of 32 such slots fills its region
 pub sized-region : (size : ℕ) (t : Table) → length t ≡ 32 → Sized size t → length (region size t) ≡ 4 + size * 32
 unfolding region le32
 sized-region size t n z =
     let e : length (slots size t) ≡ size * 32 = sized-slots size t z ∙ rw n in
     omega arith
 
--- 3. The tables of a present controller ---------------------------------------------------------------------------------------------------------
+-- 3. A table changed ---------------------------------------------------------------------------------------------------------------------------
+
+-- a valid table in the place of another
+tables-set : (f : Hardware) (us : List TableRule) (ts : List Table) (k : ℕ) (t : Table) → tablesOk f us ts ≡ true → tableOk (getD us k uuidRule) f t ≡ true → tablesOk f us (set ts k t) ≡ true
+unfolding tablesOk
+tables-set f [] [] k t e n = refl
+tables-set f [] (x ∷ ts) k t e n = no-way (sym e)
+tables-set f (u ∷ us) [] k t e n = no-way (sym e)
+tables-set f (u ∷ us) (x ∷ ts) zero t e n = both n (and-true (tableOk u f x) _ e .1)
+tables-set f (u ∷ us) (x ∷ ts) (suc k) t e n = let a = and-true (tableOk u f x) _ e in both (a .0) (tables-set f us ts k t (a .1) n)
+
+-- keeps a controller valid
+pub table-kept : (c : Controller) (k : ℕ) (t : Table) → controllerOk c ≡ true → tableOk (ruleAt k) (c .radio .hardware) t ≡ true → controllerOk (withHost c (withTable (c .host) k t)) ≡ true
+unfolding withHost withTable ruleAt timerOk widthsOk
+table-kept c k t e n =
+    let h = controller-fit c e in
+    fit-controller (withHost c (withTable (c .host) k t)) (record {
+      radio = h .radio;
+      staticAddress = h .staticAddress;
+      name = h .name;
+      timer = h .timer;
+      widths = h .widths;
+      tables = tables-set (c .radio .hardware) tableRules (c .host .tables) k t (h .tables) n;
+    })
+
+-- 4. The tables of a present controller ---------------------------------------------------------------------------------------------------------
 
 module _ (s : Octets) (i : ℕ) (r : Ready s i) (k : ℕ) (l : k < 6) where
+  -- all six are valid
   tables-fine : tablesOk (controllerOf s i .radio .hardware) tableRules (controllerOf s i .host .tables) ≡ true
   tables-fine = controller-fit (controllerOf s i) (controller-fine s i r) .tables
 
-  -- it is valid: 32 slots, and every record has the size
+  -- table k is valid
   pub table-fine : tableOk (ruleAt k) (controllerOf s i .radio .hardware) (tableOf (controllerOf s i .host) k) ≡ true
   table-fine = table-ok (controllerOf s i) k (controller-fine s i r) l
 
+  -- it has 32 slots
   pub table-long : length (tableOf (controllerOf s i .host) k) ≡ 32
   table-long = table-fit (ruleAt k) (controllerOf s i .radio .hardware) (tableOf (controllerOf s i .host) k) table-fine .slots
 
+  -- and every record has the size
   pub table-sized : Sized (ruleAt k .size) (tableOf (controllerOf s i .host) k)
-  unfolding recordOk
-  table-sized =
-      every-sized (ruleAt k .size) (λ x. passes (ruleAt k .checks x)) (tableOf (controllerOf s i .host) k)
-      (table-fit (ruleAt k) (controllerOf s i .radio .hardware) (tableOf (controllerOf s i .host) k) table-fine .each)
+  table-sized = fine-sized (ruleAt k) (controllerOf s i .radio .hardware) (tableOf (controllerOf s i .host) k) table-fine
 
+  -- its region is the piece from 5 on
   region-here : getD (pieces (controllerOf s i) (openAt s i)) (past5 k) [] ≡ region (ruleAt k .size) (tableOf (controllerOf s i .host) k)
   unfolding pieces ruleAt tableOf
   region-here = region-get (controllerOf s i .radio .hardware) tableRules (controllerOf s i .host .tables) k tables-fine (rw rules-six l)
 
+  -- another region there is another table
   region-put : (t : Table)
       → set (pieces (controllerOf s i) (openAt s i)) (past5 k) (region (ruleAt k .size) t) ≡ pieces (withHost (controllerOf s i) (withTable (controllerOf s i .host) k t)) (openAt s i)
   unfolding pieces ruleAt withHost withTable settingsOf
@@ -178,3 +216,23 @@ module _ (s : Octets) (i : ℕ) (r : Ready s i) (k : ℕ) (l : k < 6) where
   table-stored t n z =
       let d = withHost (controllerOf s i) (withTable (controllerOf s i .host) k t) in
       rw (five k) (controller-changed s i r (past5 k) (region (ruleAt k .size) t) d (omega arith) (sized-region (ruleAt k .size) t n z ∙ sym (size-at k l)) (region-put t))
+
+  -- after a valid table is stored
+  module _ (t : Table) (n : tableOk (ruleAt k) (controllerOf s i .radio .hardware) t ≡ true) where
+    -- the hub has it
+    pub table-written : writeAt s (tablePlace i k) (region (ruleAt k .size) t) ≡ encode (putController (decode s) i (withHost (controllerOf s i) (withTable (controllerOf s i .host) k t)))
+    table-written =
+        let f = controllerOf s i .radio .hardware in
+        table-stored t (table-fit (ruleAt k) f t n .slots) (fine-sized (ruleAt k) f t n)
+
+    -- the index is present in a well-formed state
+    pub table-ready : Ready (encode (putController (decode s) i (withHost (controllerOf s i) (withTable (controllerOf s i .host) k t)))) i
+    table-ready =
+        let h = withTable (controllerOf s i .host) k t in
+        controller-ready s i r (withHost (controllerOf s i) h) (table-kept (controllerOf s i) k t (controller-fine s i r) n) (host-fine s i r h)
+
+    -- with the new table
+    pub table-now : controllerOf (encode (putController (decode s) i (withHost (controllerOf s i) (withTable (controllerOf s i .host) k t)))) i ≡ withHost (controllerOf s i) (withTable (controllerOf s i .host) k t)
+    table-now =
+        let h = withTable (controllerOf s i .host) k t in
+        controller-back s i r (withHost (controllerOf s i) h) (table-kept (controllerOf s i) k t (controller-fine s i r) n) (host-fine s i r h)

@@ -174,11 +174,11 @@ pub fn clear_open(s: &mut [u8], i: u64)
 }
 
 // The last reading of the clock.
-pub fn clock_at(s: &[u8]) -> u64
+pub fn clock_at(s: &[u8]) -> u32
     requires { ⌜ length (now s) ≡ 16116 ⌝ }
     ensures { λ r. ⌜ r ≡ decode (now (s .entry)) .plain .clock ⌝ }
 {
-    octets::u32_at(s, 0)
+    octets::u32_at(s, 0) as u32
 }
 
 // Keeps a reading of the clock.

@@ -3,9 +3,8 @@
 use mathlib.Core.Path.{refl}
 use Rattle.rules.specs.Effects.{settingsEffect, controllerOf}
 use Rattle.model.specs.State.{settingsOf, withLowEnergy}
-use Rattle.model.specs.Rules.{on}
 use Rattle.model.specs.Octets.{octet}
-use Rattle.model.specs.Rules.{setLowEnergy}
+use Rattle.model.specs.Rules.{on, setLowEnergy}
 use borrow.Author.Needs.{needs}
 use Rattle.rules.proofs.effect_low_energy.Statement.{statement}
 use Rattle.rules.proofs.effect_low_energy.Tie as tie

@@ -1,0 +1,35 @@
+-- What the commands on the tables of UUIDs, blocked devices and devices say beyond the model's words.
+-- Assumes nothing.
+use Prim.Native.Nat.{ℕ}
+use mathlib.Core.Bool.{Bool, true, false, _||_}
+use mathlib.Core.List.{[], _∷_, _++_}
+use lib.Dec.{eqb}
+use Rattle.model.specs.Octets.{Octets, event, commandComplete}
+use Rattle.model.specs.State.{Table}
+use Rattle.model.specs.Tables.{begins, entries, holds}
+use Rattle.model.specs.Proof.Region.{free}
+use Rattle.table.specs.Slots.{firstAt, joinedByOr}
+
+-- the slot that a record goes to: that of the first match, else the lowest free one
+unfoldable pub slotFor : (Octets → Bool) → Table → ℕ
+slotFor m t = elim (holds m t) [ true ↦ firstAt m t | false ↦ free t ]
+
+-- the records that go: all, or those with the first n octets of the key
+abbrev pub named : Bool → ℕ → Octets → Octets → Bool
+named all n key = λ r. all || begins n key r
+
+-- all hints of a table of UUIDs, joined by or
+abbrev pub hintsOf : Table → ℕ
+hintsOf t = joinedByOr 16 (entries t)
+
+-- the class with these hints
+abbrev pub classWith : ℕ → Octets
+classWith hints = 0 ∷ 0 ∷ hints ∷ []
+
+-- Class Of Device Changed, "only on change"
+unfoldable pub changedClass : ℕ → ℕ → ℕ → Octets
+changedClass index old new = elim (eqb old new) [ true ↦ [] | false ↦ event 0x0007 index (classWith new) ]
+
+-- what Add UUID and Remove UUID write when they act: they "return the class", and "events follow the reply"
+unfoldable pub classReply : ℕ → ℕ → ℕ → ℕ → Octets
+classReply index code old new = commandComplete index code 0 (classWith new) ++ changedClass index old new

@@ -1,0 +1,195 @@
+//! Damage to one place of an image, for each rule that images keep.
+
+use crate::draft::{records, ControllerDraft, Draft};
+use crate::pools;
+use crate::random::Random;
+use crate::records::{repeat, spoil, KINDS};
+use reference::codes::{setting, SLOTS};
+
+/// A rule that an image is made to break.
+#[derive(Clone, Copy, PartialEq, Eq, PartialOrd, Ord, Debug)]
+pub enum Damage {
+    /// The length field.
+    Length,
+    /// The version octet.
+    Version,
+    /// The controller count.
+    ControllerCount,
+    /// An index too high, or not above the one before.
+    Index,
+    /// BR/EDR without a public address.
+    PublicAddress,
+    /// Supported bits above 15.
+    HighSettings,
+    /// Neither BR/EDR nor LE.
+    NoTransport,
+    /// Flags other than the three.
+    Flags,
+    /// LE on without support.
+    LowEnergyOn,
+    /// LE off without BR/EDR.
+    LowEnergyOff,
+    /// A static address that is none.
+    StaticAddress,
+    /// A static address without LE support.
+    StaticUnsupported,
+    /// The end of the name.
+    NameEnd,
+    /// The end of the short name.
+    ShortNameEnd,
+    /// A count octet of a table, the tables counted from 0.
+    TableCount(usize),
+    /// More records than slots.
+    TooManyRecords(usize),
+    /// A record of a table.
+    Record(usize),
+    /// Two records of a table.
+    Repeat(usize),
+    /// Keys without support.
+    KeysUnsupported(usize),
+    /// Octets left over.
+    Tail,
+    /// Octets missing.
+    Cut,
+}
+
+/// All kinds of damage.
+pub fn all() -> Vec<Damage> {
+    use Damage::*;
+    let mut kinds = vec![Length, Version, ControllerCount, Index, PublicAddress, HighSettings, NoTransport];
+    kinds.extend([Flags, LowEnergyOn, LowEnergyOff, StaticAddress, StaticUnsupported]);
+    kinds.extend([NameEnd, ShortNameEnd, Tail, Cut]);
+    for place in 0..KINDS.len() {
+        kinds.extend([TableCount(place), TooManyRecords(place), Record(place), Repeat(place)]);
+    }
+    kinds.extend([1, 2, 3].map(KeysUnsupported));
+    kinds
+}
+
+/// Damages a valid image; false if it has no place for this damage.
+pub fn damage(random: &mut Random, draft: &mut Draft, kind: Damage) -> bool {
+    match kind {
+        Damage::Length => draft.length = Some(wrong_length(random, draft.octets().len() as u32)),
+        Damage::Version => draft.version = random.pick(&[0, 2, 0x10, 0xFF]),
+        Damage::ControllerCount => {
+            let count = draft.controllers.len() as u8;
+            draft.count = Some(random.pick(&[count + 1, count.wrapping_sub(1), count + 4, count | 0x80]));
+        }
+        Damage::Tail => {
+            let length = random.between(1, 5);
+            draft.tail = random.octets(length);
+        }
+        Damage::Cut => {
+            let most = if random.percent(50) { 2 } else { draft.octets().len() - 4 };
+            draft.cut = random.between(1, most);
+        }
+        Damage::Index => return damage_index(random, draft),
+        _ => return damage_controller(random, draft, kind),
+    }
+    true
+}
+
+/// A length field that is not the number of octets.
+fn wrong_length(random: &mut Random, length: u32) -> u32 {
+    let bit = 1 << random.below(32);
+    random.pick(&[length + 1, length - 1, length.swap_bytes(), length ^ bit, length + 0x1_0000, 0])
+}
+
+/// An index above 3, the same index twice, or two out of order.
+fn damage_index(random: &mut Random, draft: &mut Draft) -> bool {
+    let count = draft.controllers.len();
+    if count == 0 {
+        return false;
+    }
+    let place = random.below(count);
+    if place == 0 || random.percent(30) {
+        draft.controllers[place].index = random.pick(&[4, 5, 0x80, 0xFF]);
+    } else if random.percent(50) {
+        draft.controllers[place].index = draft.controllers[place - 1].index;
+    } else {
+        draft.controllers.swap(place, place - 1);
+    }
+    true
+}
+
+/// Damages one of the controllers that has a place for it.
+fn damage_controller(random: &mut Random, draft: &mut Draft, kind: Damage) -> bool {
+    let fits = |controller: &&mut ControllerDraft| fits(controller, kind);
+    let mut fitting: Vec<_> = draft.controllers.iter_mut().filter(fits).collect();
+    if fitting.is_empty() {
+        return false;
+    }
+    let chosen = random.below(fitting.len());
+    let controller = &mut fitting[chosen];
+    match kind {
+        Damage::TableCount(place)
+        | Damage::TooManyRecords(place)
+        | Damage::Record(place)
+        | Damage::Repeat(place)
+        | Damage::KeysUnsupported(place) => damage_table(random, controller, kind, place),
+        _ => damage_field(random, controller, kind),
+    }
+    true
+}
+
+/// Whether a controller has a place for the damage.
+fn fits(controller: &ControllerDraft, kind: Damage) -> bool {
+    match kind {
+        Damage::PublicAddress => controller.has_br_edr(),
+        Damage::LowEnergyOn | Damage::StaticUnsupported => !controller.has_low_energy(),
+        Damage::LowEnergyOff => !controller.has_br_edr(),
+        Damage::StaticAddress => controller.has_low_energy(),
+        Damage::TooManyRecords(place) => controller.takes(KINDS[place]),
+        Damage::Record(place) => !controller.tables[place].records.is_empty(),
+        Damage::Repeat(place) => controller.tables[place].records.len() >= 2,
+        Damage::KeysUnsupported(place) => !controller.takes(KINDS[place]),
+        _ => true,
+    }
+}
+
+/// Damages a field before the tables.
+fn damage_field(random: &mut Random, controller: &mut ControllerDraft, kind: Damage) {
+    match kind {
+        Damage::PublicAddress => controller.public_address = [0; 6],
+        Damage::HighSettings => controller.supported |= 1 << random.between(16, 31),
+        Damage::NoTransport => {
+            controller.supported &= !(setting::BR_EDR | setting::LOW_ENERGY);
+        }
+        Damage::Flags => {
+            let others: Vec<u32> = (0..32).filter(|bit| ![1, 4, 9].contains(bit)).collect();
+            controller.flags |= 1 << random.pick(&others);
+        }
+        Damage::LowEnergyOn => controller.flags |= setting::LOW_ENERGY,
+        Damage::LowEnergyOff => controller.flags &= !setting::LOW_ENERGY,
+        Damage::StaticAddress => {
+            controller.static_address = pools::low_address(random.below(pools::LOW));
+        }
+        Damage::StaticUnsupported => controller.static_address = pools::static_address(random),
+        Damage::NameEnd => controller.names[248] = random.octet() | 1,
+        _ => controller.names[259] = random.octet() | 1,
+    }
+}
+
+/// Damages a table.
+fn damage_table(random: &mut Random, controller: &mut ControllerDraft, kind: Damage, place: usize) {
+    let table = &mut controller.tables[place];
+    let count = table.records.len();
+    match kind {
+        Damage::TableCount(_) => {
+            let wrong = if count == SLOTS { 33 } else { count as u8 + 1 };
+            table.count = Some(random.pick(&[wrong, 33, 0x80 | count as u8, 0xFF]));
+        }
+        Damage::TooManyRecords(_) => table.records = records(random, KINDS[place], SLOTS + 1),
+        Damage::Record(_) => {
+            let chosen = random.below(count);
+            spoil(random, KINDS[place], &mut table.records[chosen]);
+        }
+        Damage::Repeat(_) => {
+            repeat(random, KINDS[place], &mut table.records);
+        }
+        _ => {
+            let length = random.between(1, 3);
+            table.records = records(random, KINDS[place], length);
+        }
+    }
+}

@@ -1,0 +1,239 @@
+//! Images field by field, so that one field can be damaged.
+
+use crate::pools;
+use crate::random::Random;
+use crate::records::{key_list, Kind, KINDS};
+use reference::codes::{setting, CONTROLLERS, SLOTS};
+use reference::records::Address;
+
+/// An image before it is written out.
+#[derive(Clone, PartialEq, Eq, Debug)]
+pub struct Draft {
+    /// The length field, where it is not the number of octets.
+    pub length: Option<u32>,
+    /// The version octet.
+    pub version: u8,
+    /// The controller count, where it is not the number of controllers.
+    pub count: Option<u8>,
+    /// The controllers.
+    pub controllers: Vec<ControllerDraft>,
+    /// Octets after the last table.
+    pub tail: Vec<u8>,
+    /// Octets that are missing at the end.
+    pub cut: usize,
+}
+
+/// A controller of an image.
+#[derive(Clone, PartialEq, Eq, Debug)]
+pub struct ControllerDraft {
+    /// Its index.
+    pub index: u8,
+    /// Its public address.
+    pub public_address: Address,
+    /// Its Bluetooth version.
+    pub version: u8,
+    /// Its manufacturer.
+    pub manufacturer: u16,
+    /// Its supported settings.
+    pub supported: u32,
+    /// The settings that are kept.
+    pub flags: u32,
+    /// Its static address.
+    pub static_address: Address,
+    /// Name and short name, 260 octets.
+    pub names: Vec<u8>,
+    /// The six tables.
+    pub tables: [TableDraft; 6],
+}
+
+/// A table of an image.
+#[derive(Clone, PartialEq, Eq, Debug, Default)]
+pub struct TableDraft {
+    /// The count octet, where it is not the number of records.
+    pub count: Option<u8>,
+    /// The records.
+    pub records: Vec<Vec<u8>>,
+}
+
+/// Takes octets from the front.
+fn take<'a>(rest: &mut &'a [u8], count: usize) -> &'a [u8] {
+    let (taken, left) = rest.split_at(count);
+    *rest = left;
+    taken
+}
+
+/// Takes a fixed number of octets from the front.
+fn array<const N: usize>(rest: &mut &[u8]) -> [u8; N] {
+    let mut out = [0; N];
+    out.copy_from_slice(take(rest, N));
+    out
+}
+
+impl Draft {
+    /// A valid image of so many controllers at random indexes.
+    pub fn random(random: &mut Random) -> Draft {
+        let count = random.below(CONTROLLERS + 1);
+        let mut indexes = random.sample(CONTROLLERS, count);
+        indexes.sort_unstable();
+        let controllers = indexes.iter().map(|index| ControllerDraft::random(random, *index as u8));
+        Draft {
+            length: None,
+            version: 1,
+            count: None,
+            controllers: controllers.collect(),
+            tail: vec![],
+            cut: 0,
+        }
+    }
+
+    /// Reads a valid image.
+    pub fn read(image: &[u8]) -> Draft {
+        let mut rest = &image[5..];
+        let count = array::<1>(&mut rest)[0];
+        let controllers = (0..count).map(|_| ControllerDraft::read(&mut rest)).collect();
+        Draft { length: None, version: image[4], count: None, controllers, tail: vec![], cut: 0 }
+    }
+
+    /// The octets of the image.
+    pub fn octets(&self) -> Vec<u8> {
+        let count = self.count.unwrap_or(self.controllers.len() as u8);
+        let mut out = vec![0, 0, 0, 0, self.version, count];
+        for controller in &self.controllers {
+            controller.write(&mut out);
+        }
+        out.extend_from_slice(&self.tail);
+        out.truncate(out.len() - self.cut.min(out.len() - 4));
+        let length = self.length.unwrap_or(out.len() as u32);
+        out[..4].copy_from_slice(&length.to_be_bytes());
+        out
+    }
+}
+
+impl ControllerDraft {
+    /// Whether it supports BR/EDR.
+    pub fn has_br_edr(&self) -> bool {
+        self.supported & setting::BR_EDR != 0
+    }
+
+    /// Whether it supports LE.
+    pub fn has_low_energy(&self) -> bool {
+        self.supported & setting::LOW_ENERGY != 0
+    }
+
+    /// Whether it may have records of a kind.
+    pub fn takes(&self, kind: Kind) -> bool {
+        match kind {
+            Kind::LinkKey => self.has_br_edr(),
+            Kind::LongTermKey | Kind::IdentityKey => self.has_low_energy(),
+            _ => true,
+        }
+    }
+
+    /// A valid controller.
+    fn random(random: &mut Random, index: u8) -> ControllerDraft {
+        let (supported, public_address) = pools::hardware(random);
+        let mut controller = ControllerDraft {
+            index,
+            public_address,
+            version: random.octet(),
+            manufacturer: random.bits() as u16,
+            supported,
+            flags: random.pick(&[0, 0x0002, 0x0010, 0x0012]),
+            static_address: [0; 6],
+            names: pools::names(random),
+            tables: Default::default(),
+        };
+        let low_energy = controller.has_low_energy();
+        if low_energy && (!controller.has_br_edr() || random.percent(60)) {
+            controller.flags |= setting::LOW_ENERGY;
+        }
+        if low_energy && random.percent(60) {
+            controller.static_address = pools::static_address(random);
+        }
+        for (place, kind) in KINDS.iter().enumerate() {
+            if controller.takes(*kind) {
+                controller.tables[place].records = table(random, *kind);
+            }
+        }
+        controller
+    }
+
+    /// Reads a controller of a valid image.
+    fn read(rest: &mut &[u8]) -> ControllerDraft {
+        let mut controller = ControllerDraft {
+            index: array::<1>(rest)[0],
+            public_address: array(rest),
+            version: array::<1>(rest)[0],
+            manufacturer: u16::from_be_bytes(array(rest)),
+            supported: u32::from_be_bytes(array(rest)),
+            flags: u32::from_be_bytes(array(rest)),
+            static_address: array(rest),
+            names: take(rest, 260).to_vec(),
+            tables: Default::default(),
+        };
+        for (place, kind) in KINDS.iter().enumerate() {
+            let count = array::<1>(rest)[0];
+            let records = (0..count).map(|_| take(rest, kind.length()).to_vec());
+            controller.tables[place].records = records.collect();
+        }
+        controller
+    }
+
+    /// Adds the octets of the controller.
+    fn write(&self, out: &mut Vec<u8>) {
+        out.push(self.index);
+        out.extend_from_slice(&self.public_address);
+        out.push(self.version);
+        out.extend_from_slice(&self.manufacturer.to_be_bytes());
+        out.extend_from_slice(&self.supported.to_be_bytes());
+        out.extend_from_slice(&self.flags.to_be_bytes());
+        out.extend_from_slice(&self.static_address);
+        out.extend_from_slice(&self.names);
+        for table in &self.tables {
+            out.push(table.count.unwrap_or(table.records.len() as u8));
+            out.extend(table.records.concat());
+        }
+    }
+}
+
+/// A valid table: often empty, small or full.
+fn table(random: &mut Random, kind: Kind) -> Vec<Vec<u8>> {
+    let count = match random.below(6) {
+        0 | 1 => 0,
+        2 => SLOTS,
+        3 => random.between(30, 32),
+        _ => random.between(1, 5),
+    };
+    records(random, kind, count)
+}
+
+/// So many different valid records of a kind; there are at least 40 of each.
+pub fn records(random: &mut Random, kind: Kind, count: usize) -> Vec<Vec<u8>> {
+    match kind {
+        Kind::Service => {
+            let numbers = random.sample(pools::UUIDS, count);
+            let record = |number: &usize| [&pools::uuid(*number)[..], &[pools::hint(random)]].concat();
+            numbers.iter().map(record).collect()
+        }
+        Kind::Blocked | Kind::Device => devices(random, kind, count),
+        _ => key_list(random, kind, count),
+    }
+}
+
+/// Different devices of the three types, with actions for the action list.
+fn devices(random: &mut Random, kind: Kind, count: usize) -> Vec<Vec<u8>> {
+    let numbers = random.sample(3 * (13 + pools::LOW), count);
+    let record = |number: &usize| {
+        let (place, address_type) = (number / 3, (number % 3) as u8);
+        let address = match place.checked_sub(13) {
+            Some(low) => pools::low_address(low),
+            None => pools::high_address(place),
+        };
+        let mut record = [&address[..], &[address_type]].concat();
+        if kind == Kind::Device {
+            record.push(if address_type == 0 { 1 } else { random.below(3) as u8 });
+        }
+        record
+    };
+    numbers.iter().map(record).collect()
+}

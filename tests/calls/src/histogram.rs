@@ -1,0 +1,173 @@
+//! What the calls of a run came to: which commands, answers, statuses, reasons
+//! and events, and how often.
+
+use crate::lists::Lists;
+use crate::situations::situations;
+use reference::codes::{answer, event, IMAGE_ROOM, REPLY_ROOM};
+use reference::packet::{little_endian, Packet, HEADER};
+use reference::{Call, Hub, Reply};
+use std::collections::BTreeMap;
+use std::fmt::{Debug, Display, Formatter, Result};
+
+/// Counts by call, answer and status, and by call and reason.
+#[derive(Clone, Debug, Default)]
+pub struct Histogram {
+    /// By call, answer and status octet.
+    pub statuses: BTreeMap<(String, u8, Option<u8>), usize>,
+    /// By call and the reason that answered.
+    pub reasons: BTreeMap<(String, String), usize>,
+    /// By call, the reason that answered and one that stood behind it.
+    pub behind: BTreeMap<(String, String, String), usize>,
+    /// By call and the events written.
+    pub events: BTreeMap<(String, String), usize>,
+    /// By situation.
+    pub situations: BTreeMap<&'static str, usize>,
+    /// All calls.
+    pub calls: usize,
+}
+
+/// What is known of a call before it is made.
+pub struct Note {
+    /// What the call is called.
+    what: String,
+    /// Why it will be refused, the reason that answers first.
+    reasons: Vec<String>,
+    /// What is special about it if it is not.
+    situations: Vec<&'static str>,
+}
+
+/// The name of anything that can be printed.
+fn name(item: impl Debug) -> String {
+    format!("{item:?}")
+}
+
+/// What a call is called in the counts: the code of a known command, else its kind.
+pub fn what(call: &Call) -> String {
+    match call {
+        Call::Command { packet, .. } => match Packet::read(packet) {
+            Some(packet) if reference::command::is_known(packet.code) => format!("{:#06x}", packet.code),
+            Some(_) => "unknown code".into(),
+            None => "no packet".into(),
+        },
+        Call::Report { .. } => "report".into(),
+        Call::Clock { .. } => "clock".into(),
+        Call::Plug { .. } => "plug".into(),
+        Call::Unplug { .. } => "unplug".into(),
+        Call::Save { .. } => "save".into(),
+    }
+}
+
+/// Why a call will be refused, the reason that answers first.
+fn reasons(hub: &Hub, call: &Call) -> Vec<String> {
+    let least = if matches!(call, Call::Save { .. }) { IMAGE_ROOM } else { REPLY_ROOM };
+    if call.room() < least {
+        return vec!["Room".into()];
+    }
+    let state = hub.state();
+    match call {
+        Call::Command { packet, .. } if Packet::read(packet).is_none() => {
+            vec![if packet.len() < HEADER { "Short" } else { "LengthField" }.into()]
+        }
+        Call::Command { packet, .. } => hub.reasons(packet).iter().map(name).collect(),
+        Call::Report { index, status, .. } => hub.report_fault(*index, *status).iter().map(name).collect(),
+        Call::Clock { reading, .. } => state.clock_fault(*reading).iter().map(name).collect(),
+        Call::Plug { index, address, supported, .. } => {
+            state.plugged(*index, address, 0, 0, *supported).err().iter().map(name).collect()
+        }
+        Call::Unplug { index, .. } if state.controller(*index).is_none() => vec!["Absent".into()],
+        _ => Vec::new(),
+    }
+}
+
+/// The events in a reply, equal neighbours told once.
+fn events(octets: &[u8]) -> String {
+    let mut codes: Vec<String> = Vec::new();
+    let mut rest = octets;
+    while rest.len() >= HEADER {
+        let code = format!("{:04x}", little_endian(rest, 0));
+        match codes.last_mut() {
+            Some(last) if last.trim_end_matches('+') == code => *last = code + "+",
+            _ => codes.push(code),
+        }
+        let length = HEADER + usize::from(little_endian(rest, 4));
+        rest = rest.get(length..).unwrap_or_default();
+    }
+    codes.join(" ")
+}
+
+impl Note {
+    /// Looks at a call before the hub gets it.
+    pub fn new(hub: &Hub, call: &Call) -> Note {
+        let reasons = reasons(hub, call);
+        let situations = if reasons.is_empty() { situations(hub, call) } else { Vec::new() };
+        Note { what: what(call), reasons, situations }
+    }
+}
+
+impl Histogram {
+    /// Runs so many random calls and counts them.
+    pub fn of_run(count: usize, seed: u64) -> Histogram {
+        let mut lists = Lists::new(seed);
+        let mut histogram = Histogram::default();
+        while histogram.calls < count {
+            let (_, mut hub) = lists.start();
+            while let Some(call) = lists.next(&hub) {
+                let note = Note::new(&hub, &call);
+                let reply = hub.call(&call);
+                histogram.add(note, &call, &reply);
+            }
+        }
+        histogram
+    }
+
+    /// Counts a call with its reply.
+    pub fn add(&mut self, note: Note, call: &Call, reply: &Reply) {
+        self.calls += 1;
+        for situation in &note.situations {
+            *self.situations.entry(situation).or_default() += 1;
+        }
+        let replies = !matches!(call, Call::Save { .. }) && reply.octets.len() > HEADER;
+        let code = if replies { little_endian(&reply.octets, 0) } else { 0 };
+        let told = code == event::COMMAND_COMPLETE || code == event::COMMAND_STATUS;
+        let status = told.then(|| reply.octets[8]);
+        let key = (note.what.clone(), reply.answer, status);
+        *self.statuses.entry(key).or_default() += 1;
+        if reply.answer == answer::DONE && !matches!(call, Call::Save { .. }) {
+            *self.events.entry((note.what.clone(), events(&reply.octets))).or_default() += 1;
+        }
+        let Some(first) = note.reasons.first() else { return };
+        *self.reasons.entry((note.what.clone(), first.clone())).or_default() += 1;
+        for second in &note.reasons[1..] {
+            let key = (note.what.clone(), first.clone(), second.clone());
+            *self.behind.entry(key).or_default() += 1;
+        }
+    }
+}
+
+impl Display for Histogram {
+    fn fmt(&self, out: &mut Formatter<'_>) -> Result {
+        writeln!(out, "{} calls", self.calls)?;
+        writeln!(out, "\ncall, answer, status:")?;
+        for ((what, answer, status), count) in &self.statuses {
+            let status = status.map(|status| format!("{status:#04x}")).unwrap_or("-".into());
+            writeln!(out, "{count:9}  {what}  {answer}  {status}")?;
+        }
+        writeln!(out, "\ncall, reason:")?;
+        for ((what, reason), count) in &self.reasons {
+            writeln!(out, "{count:9}  {what}  {reason}")?;
+        }
+        writeln!(out, "\ncall, reason, reason behind it:")?;
+        for ((what, first, second), count) in &self.behind {
+            writeln!(out, "{count:9}  {what}  {first}  {second}")?;
+        }
+        writeln!(out, "\ncall, events written:")?;
+        for ((what, events), count) in &self.events {
+            writeln!(out, "{count:9}  {what}  {events}")?;
+        }
+        writeln!(out, "\nsituations:")?;
+        for (situation, count) in &self.situations {
+            writeln!(out, "{count:9}  {situation}")?;
+        }
+        Ok(())
+    }
+}

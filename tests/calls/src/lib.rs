@@ -1,0 +1,21 @@
+//! Random lists of calls and images for the hub, the same for the same seed.
+
+#![forbid(unsafe_code)]
+#![warn(missing_docs)]
+
+pub mod coverage;
+pub mod damage;
+pub mod draft;
+pub mod generator;
+pub mod histogram;
+pub mod lists;
+pub mod parameters;
+pub mod pools;
+pub mod random;
+pub mod records;
+pub mod situations;
+pub mod spoiling;
+
+pub use generator::Generator;
+pub use random::Random;
+pub use reference::Call;

@@ -1,0 +1,181 @@
+//! Whole lists of calls: where they start, how long they are, and calls at the
+//! end that show what is left in the hub.
+
+use crate::damage::{all, damage};
+use crate::draft::Draft;
+use crate::generator::Generator;
+use crate::pools;
+use crate::random::Random;
+use reference::codes::{command as code, CONTROLLERS, IMAGE_ROOM, REPLY_ROOM};
+use reference::packet::frame;
+use reference::{Call, Hub};
+
+/// The image of the fresh hub.
+pub const EMPTY: [u8; 6] = [0, 0, 0, 6, 1, 0];
+
+/// An image for a list to start from: the empty one, the last list's, or one
+/// made from scratch.
+pub fn start(random: &mut Random, last: &[u8]) -> Vec<u8> {
+    match random.below(4) {
+        0 => EMPTY.to_vec(),
+        1 => last.to_vec(),
+        _ => Draft::random(random).octets(),
+    }
+}
+
+/// How many calls a list has: mostly some hundred, now and then a few.
+pub fn length(random: &mut Random) -> usize {
+    match random.below(10) {
+        0 => random.between(0, 20),
+        1 => random.between(1000, 3000),
+        _ => random.between(100, 800),
+    }
+}
+
+/// An image to load, seldom valid: a saved one or one from scratch, damaged in
+/// one place or in one octet.
+pub fn image(random: &mut Random, saved: &[u8]) -> Vec<u8> {
+    let mut draft = if random.percent(40) { Draft::read(saved) } else { Draft::random(random) };
+    match random.below(8) {
+        0 => draft.octets(),
+        1 => one_octet(random, draft.octets()),
+        2 => {
+            let length = random.below(40);
+            random.octets(length)
+        }
+        _ => {
+            let kinds = all();
+            for _ in 0..20 {
+                let kind = random.pick(&kinds);
+                if damage(random, &mut draft, kind) {
+                    break;
+                }
+            }
+            draft.octets()
+        }
+    }
+}
+
+/// Changes one octet, mostly one before the tables.
+fn one_octet(random: &mut Random, mut image: Vec<u8>) -> Vec<u8> {
+    let most = if random.percent(60) { image.len().min(300) } else { image.len() };
+    let place = random.below(most);
+    image[place] = if random.percent(50) { image[place] ^ (1 << random.below(8)) } else { random.octet() };
+    image
+}
+
+/// Calls that end a list: what is under way fails, the settings are shown, the
+/// timers are run to their ends, and free slots are used in each table that can
+/// be filled one by one.
+pub struct Closing {
+    /// How many calls there were, failed reports aside.
+    step: usize,
+}
+
+impl Closing {
+    /// The end of a list.
+    pub fn new() -> Closing {
+        Closing { step: 0 }
+    }
+
+    /// The next call, or none if all is shown.
+    pub fn next(&mut self, hub: &Hub) -> Option<Call> {
+        const CLOCKS: usize = 2 * CONTROLLERS;
+        const SHOWN: usize = 8;
+        if let Some(index) = (0..CONTROLLERS as u64).find(|index| hub.open(*index).is_some()) {
+            return Some(Call::Report { index, status: 3, room: REPLY_ROOM });
+        }
+        let step = self.step;
+        self.step += 1;
+        match step {
+            0..CLOCKS => Some(next_second(hub, step)),
+            CLOCKS => Some(Call::Save { room: IMAGE_ROOM }),
+            _ => {
+                let (index, shown) = ((step - CLOCKS - 1) / SHOWN, (step - CLOCKS - 1) % SHOWN);
+                (index < CONTROLLERS).then(|| show(index as u16, shown))
+            }
+        }
+    }
+}
+
+impl Default for Closing {
+    fn default() -> Self {
+        Closing::new()
+    }
+}
+
+/// The reading one second before the first timer ends, then the one at its end.
+fn next_second(hub: &Hub, step: usize) -> Call {
+    let timers = hub.state().controllers.iter().flatten().filter_map(|controller| controller.timer);
+    let first = u32::from(timers.min().unwrap_or(1));
+    let seconds = if step.is_multiple_of(2) { first - 1 } else { 1 };
+    Call::Clock { reading: hub.state().clock.wrapping_add(seconds), room: REPLY_ROOM }
+}
+
+/// One of the calls that show a controller.
+fn show(index: u16, shown: usize) -> Call {
+    let peer = |number: usize| [&pools::high_address(number)[..], &[1]].concat();
+    let (code, parameters) = match shown {
+        0 => (code::READ_INFORMATION, vec![]),
+        1 | 2 => (code::ADD_UUID, [&pools::uuid(pools::UUIDS - shown)[..], &[0x40]].concat()),
+        3 | 4 => (code::BLOCK, peer(30 + shown)),
+        5 => (code::ADD_DEVICE, [peer(30), vec![2]].concat()),
+        6 => return Call::Save { room: IMAGE_ROOM },
+        _ => (code::REMOVE_DEVICE, vec![0; 7]),
+    };
+    Call::Command { packet: frame(code, index, &parameters), room: REPLY_ROOM }
+}
+
+/// A source of whole lists for one seed.
+pub struct Lists {
+    /// Where the calls come from.
+    generator: Generator,
+    /// The image that the last list left.
+    last: Vec<u8>,
+    /// How many calls the list still has before its end.
+    left: usize,
+    /// The calls at its end.
+    closing: Closing,
+}
+
+impl Lists {
+    /// Lists for a seed.
+    pub fn new(seed: u64) -> Lists {
+        Lists { generator: Generator::new(seed), last: EMPTY.to_vec(), left: 0, closing: Closing::new() }
+    }
+
+    /// Starts a list: the image, and the hub made from it.
+    pub fn start(&mut self) -> (Vec<u8>, Hub) {
+        let random = self.generator.random();
+        let image = start(random, &self.last);
+        self.left = length(random);
+        self.closing = Closing::new();
+        let mut hub = Hub::new();
+        let reply = hub.load(&image);
+        assert_eq!(reply.answer, 0, "lists start from acceptable images");
+        (image, hub)
+    }
+
+    /// The next call of the list, chosen with the hub in view, or none at its end.
+    pub fn next(&mut self, hub: &Hub) -> Option<Call> {
+        if self.left == 0 {
+            return self.closing.next(hub);
+        }
+        self.left -= 1;
+        let call = self.generator.next(hub);
+        if self.left == 0 {
+            self.last = hub.save(IMAGE_ROOM).octets;
+        }
+        Some(call)
+    }
+
+    /// Whether only the calls that end the list are left.
+    pub fn is_closing(&self) -> bool {
+        self.left == 0
+    }
+
+    /// An image to load, seldom valid.
+    pub fn image(&mut self) -> Vec<u8> {
+        image(self.generator.random(), &self.last)
+    }
+}

@@ -1,0 +1,37 @@
+//! A run of 200,000 calls reaches every refusal and every situation.
+
+use calls::coverage::{expected_orders, expected_refusals};
+use calls::histogram::Histogram;
+use calls::situations::EXPECTED;
+
+#[test]
+fn every_refusal_and_situation_is_reached() {
+    for seed in 1..=3 {
+        let run = Histogram::of_run(200_000, seed);
+        for pair in expected_refusals() {
+            assert!(run.reasons.contains_key(&pair), "seed {seed}: {pair:?} is missing");
+        }
+        for order in expected_orders() {
+            assert!(run.behind.contains_key(&order), "seed {seed}: {order:?} is missing");
+        }
+        for situation in EXPECTED {
+            assert!(run.situations.contains_key(situation), "seed {seed}: {situation} is missing");
+        }
+    }
+}
+
+#[test]
+fn no_refusal_is_reached_that_is_not_expected() {
+    let run = Histogram::of_run(200_000, 4);
+    let expected = expected_refusals();
+    for pair in run.reasons.keys() {
+        assert!(expected.contains(pair), "{pair:?} is not expected");
+    }
+}
+
+#[test]
+fn the_same_seed_gives_the_same_run() {
+    let (one, two) = (Histogram::of_run(5_000, 9), Histogram::of_run(5_000, 9));
+    assert_eq!(one.to_string(), two.to_string());
+    assert_ne!(one.to_string(), Histogram::of_run(5_000, 10).to_string());
+}

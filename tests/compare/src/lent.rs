@@ -1,0 +1,105 @@
+//! A state buffer lent to a target, and what has to hold of every call on it.
+
+use crate::target::Target;
+use reference::codes::answer;
+use reference::{Call, Reply};
+
+/// What went wrong, in words.
+pub type Difference = String;
+
+/// Octets behind each buffer that nobody may write.
+const GUARD: usize = 64;
+/// The longest reply buffer.
+const REPLY: usize = 32_768;
+
+/// A state buffer, with a reply buffer for the calls on it.
+pub struct Lent<T: Target> {
+    /// The hub that is called.
+    target: T,
+    /// The state, with the guard behind it.
+    state: Vec<u8>,
+    /// The same as it was before the call.
+    before: Vec<u8>,
+    /// The reply, with room for a guard behind it.
+    reply: Vec<u8>,
+    /// What the reply buffer was filled with before the call.
+    fill: u8,
+}
+
+/// Answer and count out of the number that a call gives.
+fn parts(number: u64) -> Result<(u8, usize), Difference> {
+    if number >> 32 != 0 {
+        return Err(format!("the number {number:#x} has bits above 31"));
+    }
+    Ok(((number & 0xFF) as u8, (number >> 8) as usize))
+}
+
+/// An error unless it holds.
+fn need(holds: bool, message: impl Fn() -> String) -> Result<(), Difference> {
+    if holds {
+        Ok(())
+    } else {
+        Err(message())
+    }
+}
+
+impl<T: Target> Lent<T> {
+    /// A state buffer that nothing was loaded into yet.
+    pub fn new(target: T) -> Lent<T> {
+        let state = vec![0xEE; T::STATE_LEN + GUARD];
+        Lent { target, before: state.clone(), state, reply: vec![0; REPLY + GUARD], fill: 0 }
+    }
+
+    /// The state's octets.
+    pub fn state(&self) -> &[u8] {
+        &self.state[..T::STATE_LEN]
+    }
+
+    /// Fills the state buffer with one octet.
+    pub fn fill_state(&mut self, octet: u8) {
+        self.state[..T::STATE_LEN].fill(octet);
+    }
+
+    /// Makes a call on the buffer. It is an error if octets past the count or
+    /// behind a buffer changed, or if a refused call changed the state.
+    pub fn call(&mut self, call: &Call) -> Result<Reply, Difference> {
+        self.call_with_length(call, T::STATE_LEN)
+    }
+
+    /// The same with a state buffer of another length.
+    pub fn call_with_length(&mut self, call: &Call, length: usize) -> Result<Reply, Difference> {
+        let room = call.room();
+        self.fill = self.fill.wrapping_mul(5).wrapping_add(0x3B);
+        self.reply[..room + GUARD].fill(self.fill);
+        self.before.copy_from_slice(&self.state);
+        let number = self.target.call(&mut self.state[..length], call, &mut self.reply[..room]);
+        let (answer, count) = parts(number)?;
+        need(count <= room, || format!("count {count} in a room of {room}"))?;
+        let untouched = self.reply[count..room + GUARD].iter().all(|octet| *octet == self.fill);
+        need(untouched, || format!("octets past the count of {count} changed"))?;
+        self.check_state(answer, length)?;
+        Ok(Reply { answer, octets: self.reply[..count].to_vec() })
+    }
+
+    /// A load into the buffer, whatever it holds.
+    pub fn load(&mut self, image: &[u8]) -> Result<u8, Difference> {
+        self.load_with_length(image, T::STATE_LEN)
+    }
+
+    /// The same with a state buffer of another length.
+    pub fn load_with_length(&mut self, image: &[u8], length: usize) -> Result<u8, Difference> {
+        self.before.copy_from_slice(&self.state);
+        let number = self.target.load(&mut self.state[..length], image);
+        let (answer, count) = parts(number)?;
+        need(count == 0, || format!("load counts {count} octets"))?;
+        self.check_state(answer, length)?;
+        Ok(answer)
+    }
+
+    /// Octets behind the state stay, and after a refusal all of them.
+    fn check_state(&self, given: u8, length: usize) -> Result<(), Difference> {
+        let changeable = if given <= answer::STARTED { length } else { 0 };
+        let same = self.state[changeable..] == self.before[changeable..];
+        need(same, || format!("answer {given} changed octets of the state that it may not"))
+    }
+}

@@ -1,0 +1,17 @@
+//! The comparison of a hub that is called as a C host calls it with the
+//! reference hub: answers, octets, images, and the at-once hub.
+
+#![forbid(unsafe_code)]
+#![warn(missing_docs)]
+
+pub mod lent;
+pub mod mirror;
+pub mod run;
+pub mod shrink;
+pub mod target;
+#[cfg(test)]
+mod tests;
+
+pub use lent::Lent;
+pub use run::Comparison;
+pub use target::Target;

@@ -1,0 +1,90 @@
+//! The C library, called through its header's functions.
+
+use compare::Target;
+use reference::Call;
+
+extern "C" {
+    /// A command packet.
+    fn hub_command(
+        state: *mut u8,
+        state_len: usize,
+        packet: *const u8,
+        packet_len: usize,
+        reply: *mut u8,
+        reply_len: usize,
+    ) -> u64;
+    /// A radio report.
+    fn hub_report(
+        state: *mut u8,
+        state_len: usize,
+        index: u64,
+        status: u64,
+        reply: *mut u8,
+        reply_len: usize,
+    ) -> u64;
+    /// A clock reading.
+    fn hub_clock(state: *mut u8, state_len: usize, reading: u32, reply: *mut u8, reply_len: usize) -> u64;
+    /// A controller comes.
+    fn hub_plug(
+        state: *mut u8,
+        state_len: usize,
+        index: u64,
+        address: *const u8,
+        address_len: usize,
+        version: u8,
+        manufacturer: u16,
+        supported: u32,
+        reply: *mut u8,
+        reply_len: usize,
+    ) -> u64;
+    /// A controller goes.
+    fn hub_unplug(state: *mut u8, state_len: usize, index: u64, reply: *mut u8, reply_len: usize) -> u64;
+    /// The image is asked for.
+    fn hub_save(state: *mut u8, state_len: usize, reply: *mut u8, reply_len: usize) -> u64;
+    /// A state is made from an image.
+    fn hub_load(state: *mut u8, state_len: usize, image: *const u8, image_len: usize) -> u64;
+}
+
+/// The functions of libhub.a.
+pub struct Library;
+
+impl Target for Library {
+    const STATE_LEN: usize = 16_116;
+
+    fn call(&mut self, state: &mut [u8], call: &Call, reply: &mut [u8]) -> u64 {
+        let (state, state_len) = (state.as_mut_ptr(), state.len());
+        let (reply, reply_len) = (reply.as_mut_ptr(), reply.len());
+        // The pointers come from slices of these lengths that do not overlap and
+        // outlive the call; the library keeps none of them.
+        unsafe {
+            match call {
+                Call::Command { packet, .. } => {
+                    hub_command(state, state_len, packet.as_ptr(), packet.len(), reply, reply_len)
+                }
+                Call::Report { index, status, .. } => {
+                    hub_report(state, state_len, *index, *status, reply, reply_len)
+                }
+                Call::Clock { reading, .. } => hub_clock(state, state_len, *reading, reply, reply_len),
+                Call::Plug { index, address, version, manufacturer, supported, .. } => hub_plug(
+                    state,
+                    state_len,
+                    *index,
+                    address.as_ptr(),
+                    address.len(),
+                    *version,
+                    *manufacturer,
+                    *supported,
+                    reply,
+                    reply_len,
+                ),
+                Call::Unplug { index, .. } => hub_unplug(state, state_len, *index, reply, reply_len),
+                Call::Save { .. } => hub_save(state, state_len, reply, reply_len),
+            }
+        }
+    }
+
+    fn load(&mut self, state: &mut [u8], image: &[u8]) -> u64 {
+        // As above: two slices that do not overlap, for the time of the call.
+        unsafe { hub_load(state.as_mut_ptr(), state.len(), image.as_ptr(), image.len()) }
+    }
+}

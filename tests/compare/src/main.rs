@@ -1,0 +1,58 @@
+//! Compares the C library with the reference hub. Arguments: calls, seed.
+
+mod library;
+
+use compare::run::{Comparison, Failure};
+use compare::shrink::shrink;
+use library::Library;
+use std::process::ExitCode;
+use std::time::{Instant, SystemTime, UNIX_EPOCH};
+
+/// A number given on the command line.
+fn argument(place: usize) -> Option<u64> {
+    std::env::args().nth(place).map(|text| text.parse().expect("a number"))
+}
+
+/// A seed for a run that names none.
+fn some_seed() -> u64 {
+    let since = SystemTime::now().duration_since(UNIX_EPOCH);
+    since.map_or(1, |time| time.as_secs())
+}
+
+/// Prints a list that the two differ on, as short as it gets.
+fn show(failure: &Failure) {
+    println!("the hubs differ, starting from the image {:02X?}", failure.image);
+    for call in &failure.calls {
+        println!("  {call:02X?}");
+    }
+    println!("{}", failure.difference);
+}
+
+/// Runs the comparison.
+fn main() -> ExitCode {
+    let count = argument(1).unwrap_or(1_000_000) as usize;
+    let seed = argument(2).unwrap_or_else(some_seed);
+    println!("seed {seed}");
+    let start = Instant::now();
+    let mut comparison = Comparison::new(seed, Library, Library);
+    let result = comparison.run(count);
+    println!(
+        "{} calls in {} lists, {} calls of reduced lists, {} images, {:.1} s",
+        comparison.calls,
+        comparison.runs,
+        comparison.reduced,
+        comparison.images,
+        start.elapsed().as_secs_f64()
+    );
+    match result {
+        Ok(()) => {
+            println!("no difference");
+            ExitCode::SUCCESS
+        }
+        Err(failure) => {
+            println!("a list of {} calls differs: {}", failure.calls.len(), failure.difference);
+            show(&shrink(comparison.lent(), failure));
+            ExitCode::FAILURE
+        }
+    }
+}

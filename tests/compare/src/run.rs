@@ -1,0 +1,218 @@
+//! Random lists and images on a target and on the reference hub side by side.
+
+use crate::lent::{Difference, Lent};
+use crate::target::Target;
+use calls::lists::Lists;
+use reference::codes::{answer, CONTROLLERS, IMAGE_ROOM, REPLY_ROOM};
+use reference::packet::Packet;
+use reference::{reduce, AtOnceHub, Call, Hub, Reply, Traced};
+
+/// How many calls lie between two comparisons of saved images.
+const SAVES: usize = 50;
+/// How many images are loaded after each list.
+const IMAGES: usize = 8;
+
+/// A comparison with what it has done so far.
+pub struct Comparison<T: Target> {
+    /// Where the lists come from.
+    lists: Lists,
+    /// The state buffer that the lists run on.
+    lent: Lent<T>,
+    /// The state buffer that the reduced lists run on.
+    at_once: Lent<T>,
+    /// Calls compared.
+    pub calls: usize,
+    /// Lists run.
+    pub runs: usize,
+    /// Images loaded beside those that lists start from.
+    pub images: usize,
+    /// Calls left over by the reduction and fed to the at-once hub.
+    pub reduced: usize,
+}
+
+/// A list that the hubs differ on.
+pub struct Failure {
+    /// The image that the list starts from.
+    pub image: Vec<u8>,
+    /// The calls up to the difference.
+    pub calls: Vec<Call>,
+    /// The difference.
+    pub difference: Difference,
+}
+
+/// A reply in words, long ones cut.
+fn shown(reply: &Reply) -> String {
+    let octets: Vec<String> = reply.octets.iter().take(80).map(|octet| format!("{octet:02X}")).collect();
+    format!("answer {}, {} octets: {}", reply.answer, reply.octets.len(), octets.join(" "))
+}
+
+/// An error that tells both replies, unless they are the same.
+pub fn same(what: &str, expected: &Reply, found: &Reply) -> Result<(), Difference> {
+    if expected == found {
+        return Ok(());
+    }
+    Err(format!("{what}\n  expected {}\n  found    {}", shown(expected), shown(found)))
+}
+
+/// Makes a call on both and compares.
+pub fn step<T: Target>(lent: &mut Lent<T>, hub: &mut Hub, call: &Call) -> Result<Reply, Difference> {
+    let expected = hub.call(call);
+    let found = lent.call(call)?;
+    same("the reply differs", &expected, &found)?;
+    Ok(found)
+}
+
+/// Compares the images of both.
+pub fn images_agree<T: Target>(lent: &mut Lent<T>, expected: &Reply) -> Result<(), Difference> {
+    let found = lent.call(&Call::Save { room: IMAGE_ROOM })?;
+    same("the saved image differs", expected, &found)
+}
+
+impl<T: Target> Comparison<T> {
+    /// A comparison of two targets alike, one for the lists and one for the
+    /// reduced lists.
+    pub fn new(seed: u64, target: T, other: T) -> Comparison<T> {
+        let (lent, at_once) = (Lent::new(target), Lent::new(other));
+        Comparison { lists: Lists::new(seed), lent, at_once, calls: 0, runs: 0, images: 0, reduced: 0 }
+    }
+
+    /// The target, with its state buffer.
+    pub fn lent(&mut self) -> &mut Lent<T> {
+        &mut self.lent
+    }
+
+    /// Runs lists until there are enough calls.
+    pub fn run(&mut self, count: usize) -> Result<(), Failure> {
+        while self.calls < count {
+            self.run_list()?;
+            self.runs += 1;
+            for _ in 0..IMAGES {
+                let image = self.lists.image();
+                let result = self.compare_image(&image);
+                result.map_err(|difference| Failure { image, calls: Vec::new(), difference })?;
+            }
+        }
+        Ok(())
+    }
+
+    /// Runs one list, and what it reduces to.
+    fn run_list(&mut self) -> Result<(), Failure> {
+        let (image, mut hub) = self.lists.start();
+        let mut list = Vec::new();
+        let mut result = self.begin(&image);
+        while result.is_ok() {
+            let Some(call) = self.lists.next(&hub) else { break };
+            let reply = step(&mut self.lent, &mut hub, &call);
+            result = reply.as_ref().map(|_| ()).map_err(|difference| difference.clone());
+            list.push(Traced::new(call, reply.unwrap_or(Reply::bare(answer::STATE))));
+            self.calls += 1;
+            if result.is_ok() && list.len() % SAVES == 0 {
+                result = images_agree(&mut self.lent, &hub.save(IMAGE_ROOM));
+            }
+        }
+        let result = result.and_then(|()| self.finish(&image, &hub, &list));
+        let calls = || list.iter().map(|traced| traced.call.clone()).collect();
+        result.map_err(|difference| Failure { image, calls: calls(), difference })
+    }
+
+    /// Loads the image that a list starts from, over whatever is there.
+    fn begin(&mut self, image: &[u8]) -> Result<(), Difference> {
+        self.lent_states()?;
+        self.lent.fill_state([0x00, 0xFF, 0x5A][self.runs % 3]);
+        self.at_once.fill_state(0xFF);
+        for lent in [&mut self.lent, &mut self.at_once] {
+            match lent.load(image)? {
+                answer::DONE => {}
+                other => return Err(format!("the image to start from is answered {other}")),
+            }
+        }
+        Ok(())
+    }
+
+    /// Compares images, and the reduced list with both at-once hubs.
+    fn finish(&mut self, image: &[u8], hub: &Hub, list: &[Traced]) -> Result<(), Difference> {
+        images_agree(&mut self.lent, &hub.save(IMAGE_ROOM))?;
+        let mut plain = AtOnceHub::new();
+        plain.load(image);
+        for expected in reduce(list) {
+            self.reduced += 1;
+            let expected_reply = Reply { answer: expected.answer, octets: expected.octets };
+            let what = format!("reduced, at once: {:?}", expected.call);
+            same(&what, &expected_reply, &plain.call(&expected.call))?;
+            let found = call_at_once(&mut self.at_once, &expected.call)?;
+            same(&format!("reduced, reported at once: {:?}", expected.call), &expected_reply, &found)?;
+        }
+        images_agree(&mut self.lent, &plain.call(&Call::Save { room: IMAGE_ROOM }))?;
+        let closed = (0..CONTROLLERS as u64).all(|index| hub.open(index).is_none());
+        if closed && self.lent.state() != self.at_once.state() {
+            return Err("the state differs from that of the reduced list".into());
+        }
+        Ok(())
+    }
+
+    /// Loads an image on both and compares what it makes.
+    fn compare_image(&mut self, image: &[u8]) -> Result<(), Difference> {
+        self.images += 1;
+        let mut hub = Hub::new();
+        let expected = hub.load(image).answer;
+        let found = self.lent.load(image)?;
+        if expected != found {
+            return Err(format!("load answers {found}, expected {expected}"));
+        }
+        if found == answer::DONE {
+            images_agree(&mut self.lent, &hub.save(IMAGE_ROOM))?;
+            self.at_once.load(image)?;
+            if self.lent.state() != self.at_once.state() {
+                return Err("one image gives two states".into());
+            }
+        }
+        Ok(())
+    }
+
+    /// State buffers of a wrong length, and one that no state can be, are answered 5.
+    fn lent_states(&mut self) -> Result<(), Difference> {
+        for call in one_of_each() {
+            for length in [0, T::STATE_LEN - 1, T::STATE_LEN + 1] {
+                let found = self.lent.call_with_length(&call, length)?;
+                same(&format!("a state of {length}: {call:?}"), &Reply::bare(answer::STATE), &found)?;
+            }
+            self.lent.fill_state(0xFF);
+            let found = self.lent.call(&call)?;
+            same(&format!("a state of 0xFF: {call:?}"), &Reply::bare(answer::STATE), &found)?;
+        }
+        for length in [0, T::STATE_LEN - 1, T::STATE_LEN + 1] {
+            let found = self.lent.load_with_length(&calls::lists::EMPTY, length)?;
+            if found != answer::STATE {
+                return Err(format!("load into a state of {length} answers {found}"));
+            }
+        }
+        Ok(())
+    }
+}
+
+/// One call of each kind, some with too little room.
+fn one_of_each() -> Vec<Call> {
+    let address = vec![1; 6];
+    vec![
+        Call::Command { packet: vec![1, 0, 0xFF, 0xFF, 0, 0], room: REPLY_ROOM },
+        Call::Command { packet: vec![], room: 0 },
+        Call::Report { index: 0, status: 0, room: REPLY_ROOM },
+        Call::Clock { reading: 1, room: REPLY_ROOM },
+        Call::Plug { index: 0, address, version: 1, manufacturer: 1, supported: 0x80, room: REPLY_ROOM },
+        Call::Unplug { index: 0, room: REPLY_ROOM - 1 },
+        Call::Save { room: IMAGE_ROOM },
+    ]
+}
+
+/// A call on a hub that is to do everything at once: a started command gets its
+/// report straight away.
+fn call_at_once<T: Target>(lent: &mut Lent<T>, call: &Call) -> Result<Reply, Difference> {
+    let reply = lent.call(call)?;
+    match call {
+        Call::Command { packet, room } if reply.answer == answer::STARTED => {
+            let index = Packet::read(packet).map_or(u64::MAX, |packet| packet.index.into());
+            lent.call(&Call::Report { index, status: 0, room: *room })
+        }
+        _ => Ok(reply),
+    }
+}

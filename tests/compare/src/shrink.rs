@@ -1,0 +1,47 @@
+//! Shorter lists that show the same kind of difference.
+
+use crate::lent::{Difference, Lent};
+use crate::run::{images_agree, step, Failure};
+use crate::target::Target;
+use reference::codes::IMAGE_ROOM;
+use reference::{Call, Hub};
+
+/// Runs a list of fixed calls on both and gives the first difference.
+pub fn replay<T: Target>(lent: &mut Lent<T>, image: &[u8], calls: &[Call]) -> Option<Difference> {
+    let mut hub = Hub::new();
+    let expected = hub.load(image).answer;
+    match lent.load(image) {
+        Ok(found) if found == expected => {}
+        Ok(found) => return Some(format!("load answers {found}, expected {expected}")),
+        Err(difference) => return Some(difference),
+    }
+    for call in calls {
+        if let Err(difference) = step(lent, &mut hub, call) {
+            return Some(difference);
+        }
+    }
+    images_agree(lent, &hub.save(IMAGE_ROOM)).err()
+}
+
+/// Leaves out calls as long as a difference stays; a list whose difference does
+/// not come again is left as it is.
+pub fn shrink<T: Target>(lent: &mut Lent<T>, failure: Failure) -> Failure {
+    let Failure { image, mut calls, mut difference } = failure;
+    let mut chunk = calls.len().div_ceil(2);
+    while chunk > 0 && replay(lent, &image, &calls).is_some() {
+        let mut at = 0;
+        while at < calls.len() {
+            let end = (at + chunk).min(calls.len());
+            let shorter = [&calls[..at], &calls[end..]].concat();
+            match replay(lent, &image, &shorter) {
+                Some(found) => {
+                    difference = found;
+                    calls = shorter;
+                }
+                None => at = end,
+            }
+        }
+        chunk /= 2;
+    }
+    Failure { image, calls, difference }
+}

@@ -1,0 +1,16 @@
+//! A hub as a C host sees it: a lent state buffer, numbers and byte slices.
+
+use reference::Call;
+
+/// The calls of a hub whose state is a lent buffer. Each gives one number:
+/// answer + 256 x count.
+pub trait Target {
+    /// The length of a state buffer.
+    const STATE_LEN: usize;
+
+    /// Any call but load. The reply buffer is as long as the call's room.
+    fn call(&mut self, state: &mut [u8], call: &Call, reply: &mut [u8]) -> u64;
+
+    /// A load.
+    fn load(&mut self, state: &mut [u8], image: &[u8]) -> u64;
+}

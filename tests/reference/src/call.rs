@@ -1,0 +1,104 @@
+//! Calls with their arguments, what they answer, and lists of both.
+
+/// What a call answers: the number and the octets written.
+#[derive(Clone, PartialEq, Eq, Hash, Debug)]
+pub struct Reply {
+    /// 0 to 7, by the table of answers.
+    pub answer: u8,
+    /// The octets at the start of the reply buffer.
+    pub octets: Vec<u8>,
+}
+
+impl Reply {
+    /// An answer that writes nothing.
+    pub fn bare(answer: u8) -> Reply {
+        Reply { answer, octets: Vec::new() }
+    }
+}
+
+/// A call with its arguments; `room` is the length of the reply buffer.
+#[derive(Clone, PartialEq, Eq, Hash, Debug)]
+pub enum Call {
+    /// A command packet.
+    Command {
+        /// The packet's octets, of any number.
+        packet: Vec<u8>,
+        /// Length of the reply buffer.
+        room: usize,
+    },
+    /// A radio report.
+    Report {
+        /// The controller.
+        index: u64,
+        /// 0 for success.
+        status: u64,
+        /// Length of the reply buffer.
+        room: usize,
+    },
+    /// A clock reading.
+    Clock {
+        /// Seconds.
+        reading: u32,
+        /// Length of the reply buffer.
+        room: usize,
+    },
+    /// A controller comes.
+    Plug {
+        /// Its index.
+        index: u64,
+        /// Its public address.
+        address: Vec<u8>,
+        /// Its Bluetooth version octet.
+        version: u8,
+        /// Its manufacturer.
+        manufacturer: u16,
+        /// Its supported settings.
+        supported: u32,
+        /// Length of the reply buffer.
+        room: usize,
+    },
+    /// A controller goes.
+    Unplug {
+        /// Its index.
+        index: u64,
+        /// Length of the reply buffer.
+        room: usize,
+    },
+    /// The image is asked for.
+    Save {
+        /// Length of the reply buffer.
+        room: usize,
+    },
+}
+
+impl Call {
+    /// The length of the reply buffer.
+    pub fn room(&self) -> usize {
+        match self {
+            Call::Command { room, .. }
+            | Call::Report { room, .. }
+            | Call::Clock { room, .. }
+            | Call::Plug { room, .. }
+            | Call::Unplug { room, .. }
+            | Call::Save { room } => *room,
+        }
+    }
+}
+
+/// A call of a list with what came back.
+#[derive(Clone, PartialEq, Eq, Hash, Debug)]
+pub struct Traced {
+    /// The call.
+    pub call: Call,
+    /// Its answer.
+    pub answer: u8,
+    /// The octets it wrote.
+    pub octets: Vec<u8>,
+}
+
+impl Traced {
+    /// A call and its reply as one.
+    pub fn new(call: Call, reply: Reply) -> Traced {
+        Traced { call, answer: reply.answer, octets: reply.octets }
+    }
+}

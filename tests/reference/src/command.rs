@@ -1,0 +1,188 @@
+//! The commands to a controller, read from their parameters.
+
+use crate::codes::command as code;
+use crate::controller::LocalName;
+use crate::packet::{little_endian, Packet};
+use crate::records::{Address, Device, IdentityKey, LinkKey, LongTermKey, Peer, Record, Service};
+
+/// A command to one controller, its parameters of the right length. The values
+/// are as received: nothing is checked here.
+#[derive(Clone, PartialEq, Eq, Hash, Debug)]
+pub enum Command {
+    /// Read Controller Information.
+    ReadInformation,
+    /// Set Powered.
+    SetPowered(u8),
+    /// Set Discoverable.
+    SetDiscoverable {
+        /// 0 off, 1 general, 2 limited.
+        mode: u8,
+        /// Seconds, 0 for no timer.
+        timeout: u16,
+    },
+    /// Set Connectable.
+    SetConnectable(u8),
+    /// Set Bondable.
+    SetBondable(u8),
+    /// Set Low Energy.
+    SetLowEnergy(u8),
+    /// Set Static Address.
+    SetStaticAddress(Address),
+    /// Set Local Name.
+    SetLocalName(Box<LocalName>),
+    /// Add UUID.
+    AddUuid(Service),
+    /// Remove UUID.
+    RemoveUuid([u8; 16]),
+    /// Load Link Keys.
+    LoadLinkKeys {
+        /// The debug flag; it is not kept.
+        debug: u8,
+        /// The new table.
+        keys: Vec<LinkKey>,
+    },
+    /// Load Long Term Keys.
+    LoadLongTermKeys(Vec<LongTermKey>),
+    /// Load Identity Resolving Keys.
+    LoadIdentityKeys(Vec<IdentityKey>),
+    /// Unpair Device.
+    Unpair {
+        /// Whose keys go.
+        peer: Peer,
+        /// Whether connections are to end.
+        disconnect: u8,
+    },
+    /// Block Device.
+    Block(Peer),
+    /// Unblock Device.
+    Unblock(Peer),
+    /// Add Device.
+    AddDevice(Device),
+    /// Remove Device.
+    RemoveDevice(Peer),
+}
+
+/// Whether a code is one of the 21.
+pub fn is_known(code: u16) -> bool {
+    code::KNOWN.contains(&code)
+}
+
+/// Whether a code is about no controller and so wants the index 0xFFFF.
+pub fn is_global(code: u16) -> bool {
+    code <= code::READ_INDEX_LIST
+}
+
+/// The octets before a key list's records, its count last among them, and the
+/// octets of each record; none for commands without a list.
+fn list_shape(code: u16) -> Option<(usize, usize)> {
+    match code {
+        code::LOAD_LINK_KEYS => Some((3, LinkKey::LEN)),
+        code::LOAD_LONG_TERM_KEYS => Some((2, LongTermKey::LEN)),
+        code::LOAD_IDENTITY_KEYS => Some((2, IdentityKey::LEN)),
+        _ => None,
+    }
+}
+
+/// Parameter octets of a known command without a list.
+fn fixed_length(code: u16) -> usize {
+    match code {
+        code::SET_POWERED | code::SET_CONNECTABLE | code::SET_BONDABLE | code::SET_LOW_ENERGY => 1,
+        code::SET_DISCOVERABLE => 3,
+        code::SET_STATIC_ADDRESS => 6,
+        code::SET_LOCAL_NAME => 260,
+        code::ADD_UUID => 17,
+        code::REMOVE_UUID => 16,
+        code::UNPAIR | code::ADD_DEVICE => 8,
+        code::BLOCK | code::UNBLOCK | code::REMOVE_DEVICE => 7,
+        _ => 0,
+    }
+}
+
+/// Whether the parameters of a known command have the length it takes.
+pub fn length_fits(packet: &Packet) -> bool {
+    let length = packet.parameters.len();
+    match list_shape(packet.code) {
+        Some((before, each)) if length >= before => {
+            let count = usize::from(little_endian(packet.parameters, before - 2));
+            length == before + each * count
+        }
+        Some(_) => false,
+        None => length == fixed_length(packet.code),
+    }
+}
+
+/// All records of a list whose length fits.
+fn records<R: Record>(octets: &[u8]) -> Vec<R> {
+    octets.chunks_exact(R::LEN).map(R::read).collect()
+}
+
+impl Command {
+    /// Reads a known command to a controller whose length fits.
+    pub fn read(packet: &Packet) -> Command {
+        let octets = packet.parameters;
+        match packet.code {
+            code::LOAD_LINK_KEYS => Command::LoadLinkKeys { debug: octets[0], keys: records(&octets[3..]) },
+            code::LOAD_LONG_TERM_KEYS => Command::LoadLongTermKeys(records(&octets[2..])),
+            code::LOAD_IDENTITY_KEYS => Command::LoadIdentityKeys(records(&octets[2..])),
+            code::UNPAIR => Command::Unpair { peer: Peer::read(&octets[..7]), disconnect: octets[7] },
+            code::BLOCK => Command::Block(Peer::read(octets)),
+            code::UNBLOCK => Command::Unblock(Peer::read(octets)),
+            code::ADD_DEVICE => Command::AddDevice(Device::read(octets)),
+            code::REMOVE_DEVICE => Command::RemoveDevice(Peer::read(octets)),
+            _ => Command::read_setting(packet.code, octets),
+        }
+    }
+
+    /// Reads the commands that are about the controller itself.
+    fn read_setting(code: u16, octets: &[u8]) -> Command {
+        let exact = "the length was checked";
+        match code {
+            code::SET_POWERED => Command::SetPowered(octets[0]),
+            code::SET_DISCOVERABLE => {
+                Command::SetDiscoverable { mode: octets[0], timeout: little_endian(octets, 1) }
+            }
+            code::SET_CONNECTABLE => Command::SetConnectable(octets[0]),
+            code::SET_BONDABLE => Command::SetBondable(octets[0]),
+            code::SET_LOW_ENERGY => Command::SetLowEnergy(octets[0]),
+            code::SET_STATIC_ADDRESS => Command::SetStaticAddress(octets.try_into().expect(exact)),
+            code::SET_LOCAL_NAME => Command::SetLocalName(Box::new(LocalName::read(octets))),
+            code::ADD_UUID => Command::AddUuid(Service::read(octets)),
+            code::REMOVE_UUID => Command::RemoveUuid(octets.try_into().expect(exact)),
+            _ => Command::ReadInformation,
+        }
+    }
+
+    /// The command's code.
+    pub fn code(&self) -> u16 {
+        match self {
+            Command::ReadInformation => code::READ_INFORMATION,
+            Command::SetPowered(_) => code::SET_POWERED,
+            Command::SetDiscoverable { .. } => code::SET_DISCOVERABLE,
+            Command::SetConnectable(_) => code::SET_CONNECTABLE,
+            Command::SetBondable(_) => code::SET_BONDABLE,
+            Command::SetLowEnergy(_) => code::SET_LOW_ENERGY,
+            Command::SetStaticAddress(_) => code::SET_STATIC_ADDRESS,
+            Command::SetLocalName(_) => code::SET_LOCAL_NAME,
+            Command::AddUuid(_) => code::ADD_UUID,
+            Command::RemoveUuid(_) => code::REMOVE_UUID,
+            Command::LoadLinkKeys { .. } => code::LOAD_LINK_KEYS,
+            Command::LoadLongTermKeys(_) => code::LOAD_LONG_TERM_KEYS,
+            Command::LoadIdentityKeys(_) => code::LOAD_IDENTITY_KEYS,
+            Command::Unpair { .. } => code::UNPAIR,
+            Command::Block(_) => code::BLOCK,
+            Command::Unblock(_) => code::UNBLOCK,
+            Command::AddDevice(_) => code::ADD_DEVICE,
+            Command::RemoveDevice(_) => code::REMOVE_DEVICE,
+        }
+    }
+
+    /// The address and type that the five address commands echo in every reply.
+    pub fn echoed(&self) -> Option<Peer> {
+        match self {
+            Command::Unpair { peer, .. } => Some(*peer),
+            Command::Block(peer) | Command::Unblock(peer) | Command::RemoveDevice(peer) => Some(*peer),
+            Command::AddDevice(device) => Some(device.peer),
+            _ => None,
+        }
+    }
+}

@@ -1,0 +1,191 @@
+//! The hub: commands may wait for the radio, and one under way makes others Busy.
+
+use crate::call::{Call, Reply};
+use crate::codes::{answer, status, CONTROLLERS, IMAGE_ROOM, REPLY_ROOM};
+use crate::command::Command;
+use crate::image;
+use crate::packet::{command_status, Packet};
+use crate::reason::{ArgumentFault, Reason};
+use crate::state::{State, Verdict};
+
+/// The reference hub.
+#[derive(Clone, PartialEq, Eq, Hash, Debug, Default)]
+pub struct Hub {
+    /// Clock and controllers.
+    state: State,
+    /// The command under way at each index.
+    open: [Option<Command>; CONTROLLERS],
+}
+
+/// The answer 4, where the reply buffer is too small.
+pub(crate) fn room_fault(room: usize, least: usize) -> Option<Reply> {
+    (room < least).then(|| Reply::bare(answer::ROOM))
+}
+
+/// The answer 0 with its octets.
+pub(crate) fn done(octets: Vec<u8>) -> Reply {
+    Reply { answer: answer::DONE, octets }
+}
+
+impl Hub {
+    /// The fresh hub: no controllers, clock 0.
+    pub fn new() -> Hub {
+        Hub::default()
+    }
+
+    /// Clock and controllers, open commands aside.
+    pub fn state(&self) -> &State {
+        &self.state
+    }
+
+    /// The command under way at an index of any size.
+    pub fn open(&self, index: u64) -> Option<&Command> {
+        let index = usize::try_from(index).ok()?;
+        self.open.get(index)?.as_ref()
+    }
+
+    /// Where a command is under way.
+    fn busy(&self) -> [bool; CONTROLLERS] {
+        std::array::from_fn(|index| self.open[index].is_some())
+    }
+
+    /// Any call but load.
+    pub fn call(&mut self, call: &Call) -> Reply {
+        match call {
+            Call::Command { packet, room } => self.command(packet, *room),
+            Call::Report { index, status, room } => self.report(*index, *status, *room),
+            Call::Clock { reading, room } => self.clock(*reading, *room),
+            Call::Plug { index, address, version, manufacturer, supported, room } => {
+                self.plug(*index, address, *version, *manufacturer, *supported, *room)
+            }
+            Call::Unplug { index, room } => self.unplug(*index, *room),
+            Call::Save { room } => self.save(*room),
+        }
+    }
+
+    /// A command packet.
+    pub fn command(&mut self, packet: &[u8], room: usize) -> Reply {
+        if let Some(reply) = room_fault(room, REPLY_ROOM) {
+            return reply;
+        }
+        let Some(packet) = Packet::read(packet) else {
+            return Reply::bare(answer::PACKET);
+        };
+        match self.state.judge(&packet, self.busy()) {
+            Verdict::Refused(_, octets) => Reply { answer: answer::REFUSED, octets },
+            Verdict::Answered(octets) => done(octets),
+            Verdict::Accepted { index, command, started: true } => {
+                self.open[index] = Some(command);
+                Reply::bare(answer::STARTED)
+            }
+            Verdict::Accepted { index, command, started: false } => done(self.state.act(index, &command)),
+        }
+    }
+
+    /// Every reason that stands against a packet, the one that answers first;
+    /// none for a packet that is done, started or answered 3.
+    pub fn reasons(&self, packet: &[u8]) -> Vec<Reason> {
+        match Packet::read(packet) {
+            Some(packet) => self.state.reasons(&packet, self.busy()),
+            None => Vec::new(),
+        }
+    }
+
+    /// Why a report is refused, if it is.
+    pub fn report_fault(&self, index: u64, status: u64) -> Option<ArgumentFault> {
+        if self.open(index).is_none() {
+            Some(ArgumentFault::NothingUnderWay)
+        } else {
+            (status > status::LAST.into()).then_some(ArgumentFault::ReportStatus)
+        }
+    }
+
+    /// A radio report: the command under way acts, or fails with the status.
+    pub fn report(&mut self, index: u64, status: u64, room: usize) -> Reply {
+        if let Some(reply) = room_fault(room, REPLY_ROOM) {
+            return reply;
+        }
+        if self.report_fault(index, status).is_some() {
+            return Reply::bare(answer::ARGUMENT);
+        }
+        let place = index as usize;
+        match self.open[place].take() {
+            Some(command) if status == 0 => done(self.state.act(place, &command)),
+            Some(command) => done(command_status(index as u16, command.code(), status as u8)),
+            None => Reply::bare(answer::ARGUMENT),
+        }
+    }
+
+    /// A clock reading: timers run, ended ones turn discoverable off.
+    pub fn clock(&mut self, reading: u32, room: usize) -> Reply {
+        clock(&mut self.state, reading, room)
+    }
+
+    /// A controller comes.
+    pub fn plug(
+        &mut self,
+        index: u64,
+        address: &[u8],
+        version: u8,
+        manufacturer: u16,
+        supported: u32,
+        room: usize,
+    ) -> Reply {
+        if let Some(reply) = room_fault(room, REPLY_ROOM) {
+            return reply;
+        }
+        match self.state.plugged(index, address, version, manufacturer, supported) {
+            Ok(controller) => done(self.state.add(index as usize, controller)),
+            Err(_) => Reply::bare(answer::ARGUMENT),
+        }
+    }
+
+    /// A controller goes; a command under way is told so first.
+    pub fn unplug(&mut self, index: u64, room: usize) -> Reply {
+        if let Some(reply) = room_fault(room, REPLY_ROOM) {
+            return reply;
+        }
+        if self.state.controller(index).is_none() {
+            return Reply::bare(answer::ARGUMENT);
+        }
+        let place = index as usize;
+        let mut octets = Vec::new();
+        if let Some(command) = self.open[place].take() {
+            octets = command_status(index as u16, command.code(), status::INVALID_INDEX);
+        }
+        octets.extend(self.state.remove(place));
+        done(octets)
+    }
+
+    /// The image of the hub.
+    pub fn save(&self, room: usize) -> Reply {
+        save(&self.state, room)
+    }
+
+    /// Makes the hub from an image; a refused image leaves it as it was.
+    pub fn load(&mut self, image: &[u8]) -> Reply {
+        match image::load(image) {
+            Ok(state) => {
+                *self = Hub { state, open: Default::default() };
+                Reply::bare(answer::DONE)
+            }
+            Err(_) => Reply::bare(answer::IMAGE),
+        }
+    }
+}
+
+/// A clock call on either hub.
+pub(crate) fn clock(state: &mut State, reading: u32, room: usize) -> Reply {
+    if let Some(reply) = room_fault(room, REPLY_ROOM) {
+        reply
+    } else if state.clock_fault(reading).is_some() {
+        Reply::bare(answer::ARGUMENT)
+    } else {
+        done(state.tick(reading))
+    }
+}
+
+/// A save call on either hub.
+pub(crate) fn save(state: &State, room: usize) -> Reply {
+    room_fault(room, IMAGE_ROOM).unwrap_or_else(|| done(image::save(state)))
+}

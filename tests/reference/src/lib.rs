@@ -1,0 +1,27 @@
+//! A Bluetooth management hub for up to four controllers, written plainly from
+//! the rules: the hub itself, the at-once hub that knows no radio, and the
+//! reduction of a list of calls on the first to a list for the second.
+
+#![forbid(unsafe_code)]
+#![warn(missing_docs)]
+
+pub mod at_once;
+pub mod call;
+pub mod checks;
+pub mod codes;
+pub mod command;
+pub mod controller;
+pub mod effects;
+pub mod hub;
+pub mod image;
+pub mod packet;
+pub mod reason;
+pub mod records;
+pub mod reduction;
+pub mod state;
+pub mod table;
+
+pub use at_once::AtOnceHub;
+pub use call::{Call, Reply, Traced};
+pub use hub::Hub;
+pub use reduction::reduce;

@@ -1,0 +1,157 @@
+//! Why a call is refused: one reason for each condition that the rules write.
+
+use crate::codes::status;
+
+/// Why a command is refused.
+#[derive(Clone, Copy, PartialEq, Eq, PartialOrd, Ord, Debug, Hash)]
+pub enum Reason {
+    /// The code is none of the 21.
+    UnknownCommand,
+    /// The index is not the one wanted, or no controller is there.
+    InvalidIndex,
+    /// The parameters have another length than the command takes.
+    WrongLength,
+    /// A list of more than 32 records.
+    TooManyRecords,
+    /// A switch that is not 0 or 1, or a discoverable mode above 2.
+    SettingValue,
+    /// Discoverable off with a timeout.
+    TimeoutGiven,
+    /// Limited discoverable without a timeout.
+    TimeoutMissing,
+    /// A static address that is neither zero nor a static random one.
+    StaticAddress,
+    /// The name does not end in zero.
+    NameEnd,
+    /// The short name does not end in zero.
+    ShortNameEnd,
+    /// The zero UUID is added.
+    ZeroUuid,
+    /// A debug flag that is not 0 or 1.
+    DebugFlag,
+    /// An address type that the command does not take.
+    AddressType,
+    /// A key type above the last.
+    KeyType,
+    /// A Master octet that is not 0 or 1.
+    Master,
+    /// An encryption size outside 7 to 16.
+    KeySize,
+    /// An LE Random address that is not a static one.
+    RandomAddress,
+    /// Two entries that name one thing.
+    Repeated,
+    /// A Disconnect octet that is not 0 or 1.
+    Disconnect,
+    /// A zero address where a device is to be named.
+    ZeroAddress,
+    /// An action above 2.
+    Action,
+    /// A BR/EDR device with another action than 1.
+    ActionForType,
+    /// The controller lacks BR/EDR or LE.
+    NotSupported,
+    /// The controller is not powered.
+    NotPowered,
+    /// A command is under way at this index.
+    Busy,
+    /// Power on without any address.
+    NoAddress,
+    /// Discoverable on with connectable off.
+    NotConnectable,
+    /// LE off where there is no BR/EDR.
+    OnlyLowEnergy,
+    /// A static address set while powered.
+    Powered,
+    /// No key under this address and type.
+    NotPaired,
+    /// The device is blocked already.
+    AlreadyBlocked,
+    /// All 32 slots are taken.
+    NoFreeSlot,
+    /// Nothing of that name to remove.
+    Absent,
+}
+
+impl Reason {
+    /// The status octet that tells the host of this reason.
+    pub fn status(self) -> u8 {
+        use Reason::*;
+        match self {
+            UnknownCommand => status::UNKNOWN_COMMAND,
+            InvalidIndex => status::INVALID_INDEX,
+            TooManyRecords | NoFreeSlot => status::NO_RESOURCES,
+            NotSupported => status::NOT_SUPPORTED,
+            NotPowered => status::NOT_POWERED,
+            Busy => status::BUSY,
+            NoAddress | NotConnectable | OnlyLowEnergy | Powered => status::REJECTED,
+            NotPaired => status::NOT_PAIRED,
+            AlreadyBlocked => status::FAILED,
+            _ => status::INVALID_PARAMETERS,
+        }
+    }
+}
+
+/// Why a plug, unplug, report or clock call is answered 6.
+#[derive(Clone, Copy, PartialEq, Eq, PartialOrd, Ord, Debug, Hash)]
+pub enum ArgumentFault {
+    /// An index above 3.
+    IndexRange,
+    /// Plug of a present index.
+    Present,
+    /// Unplug of an absent index.
+    Absent,
+    /// An address that is not 6 octets long.
+    AddressLength,
+    /// Supported bits above 15.
+    HighSettings,
+    /// Neither BR/EDR nor LE supported.
+    NoTransport,
+    /// BR/EDR with a zero public address.
+    NoPublicAddress,
+    /// A report where nothing is under way.
+    NothingUnderWay,
+    /// A report status above the last.
+    ReportStatus,
+    /// A clock step of half the range or more.
+    ClockStep,
+}
+
+/// Why an image is answered 7.
+#[derive(Clone, Copy, PartialEq, Eq, PartialOrd, Ord, Debug, Hash)]
+pub enum ImageFault {
+    /// The image ends before its last field.
+    Short,
+    /// The length field is not the number of octets.
+    Length,
+    /// The version octet is not 1.
+    Version,
+    /// More than four controllers.
+    ControllerCount,
+    /// Indexes that do not ascend, or one above 3.
+    Index,
+    /// What plug would refuse of address and supported settings.
+    Plug(ArgumentFault),
+    /// Flags other than bits 1, 4 and 9.
+    Flags,
+    /// LE on without LE support.
+    LowEnergyOn,
+    /// LE off where there is no BR/EDR.
+    LowEnergyOff,
+    /// A static address that the command would refuse.
+    StaticAddress,
+    /// A static address without LE support.
+    StaticUnsupported,
+    /// The name does not end in zero.
+    NameEnd,
+    /// The short name does not end in zero.
+    ShortNameEnd,
+    /// A table of more than 32 records; the tables count from 0.
+    TableCount(u8),
+    /// A record that its command would refuse, or a repeated one.
+    Record(u8, Reason),
+    /// Keys of a kind that the controller does not support.
+    TableUnsupported(u8),
+    /// Octets after the last table.
+    LeftOver,
+}

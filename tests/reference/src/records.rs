@@ -1,0 +1,317 @@
+//! The entries of the six tables: what they hold, their octets in packets and
+//! images, and which of them are acceptable.
+
+use crate::reason::Reason;
+
+/// A Bluetooth device address in packet order: the sixth octet is the highest.
+pub type Address = [u8; 6];
+
+/// Address type BR/EDR.
+pub const BR_EDR: u8 = 0;
+/// Address type LE Public.
+pub const LE_PUBLIC: u8 = 1;
+/// Address type LE Random.
+pub const LE_RANDOM: u8 = 2;
+
+/// An entry of a table.
+pub trait Record: Clone {
+    /// Octets of an entry.
+    const LEN: usize;
+
+    /// The entry that stands in these octets, exactly `LEN` of them.
+    fn read(octets: &[u8]) -> Self;
+
+    /// Adds the octets of the entry.
+    fn write(&self, out: &mut Vec<u8>);
+
+    /// The first rule that the entry breaks by itself.
+    fn fault(&self) -> Option<Reason>;
+
+    /// Whether both entries name the same thing.
+    fn names_same(&self, other: &Self) -> bool;
+}
+
+/// A fixed number of octets from a place on.
+fn part<const N: usize>(octets: &[u8], at: usize) -> [u8; N] {
+    let mut out = [0; N];
+    out.copy_from_slice(&octets[at..at + N]);
+    out
+}
+
+/// Whether the address may be a static random one.
+pub fn is_static_random(address: &Address) -> bool {
+    address[5] >= 0xC0
+}
+
+/// A device by address and address type; also the entry of the blocked table.
+#[derive(Clone, Copy, PartialEq, Eq, Hash, Debug)]
+pub struct Peer {
+    /// The device's address.
+    pub address: Address,
+    /// 0 BR/EDR, 1 LE Public, 2 LE Random in what is accepted.
+    pub address_type: u8,
+}
+
+impl Peer {
+    /// Whether the address is zero.
+    pub fn is_zero(&self) -> bool {
+        self.address == [0; 6]
+    }
+
+    /// The seven octets of address and type.
+    pub fn octets(&self) -> Vec<u8> {
+        let mut out = Vec::with_capacity(7);
+        self.write(&mut out);
+        out
+    }
+
+    /// What an LE key list takes: an identity address, public or static random.
+    fn identity_fault(&self) -> Option<Reason> {
+        match self.address_type {
+            LE_PUBLIC => None,
+            LE_RANDOM if is_static_random(&self.address) => None,
+            LE_RANDOM => Some(Reason::RandomAddress),
+            _ => Some(Reason::AddressType),
+        }
+    }
+
+    /// What every command about one device takes: a type of 0 to 2.
+    pub fn type_fault(&self) -> Option<Reason> {
+        (self.address_type > LE_RANDOM).then_some(Reason::AddressType)
+    }
+}
+
+impl Record for Peer {
+    const LEN: usize = 7;
+
+    fn read(octets: &[u8]) -> Peer {
+        Peer { address: part(octets, 0), address_type: octets[6] }
+    }
+
+    fn write(&self, out: &mut Vec<u8>) {
+        out.extend_from_slice(&self.address);
+        out.push(self.address_type);
+    }
+
+    fn fault(&self) -> Option<Reason> {
+        self.type_fault().or(self.is_zero().then_some(Reason::ZeroAddress))
+    }
+
+    fn names_same(&self, other: &Peer) -> bool {
+        self == other
+    }
+}
+
+/// A service UUID with its hint for the class of device.
+#[derive(Clone, PartialEq, Eq, Hash, Debug)]
+pub struct Service {
+    /// The 16 octets of the UUID.
+    pub uuid: [u8; 16],
+    /// The service class bits that it asks for.
+    pub hint: u8,
+}
+
+impl Record for Service {
+    const LEN: usize = 17;
+
+    fn read(octets: &[u8]) -> Service {
+        Service { uuid: part(octets, 0), hint: octets[16] }
+    }
+
+    fn write(&self, out: &mut Vec<u8>) {
+        out.extend_from_slice(&self.uuid);
+        out.push(self.hint);
+    }
+
+    fn fault(&self) -> Option<Reason> {
+        (self.uuid == [0; 16]).then_some(Reason::ZeroUuid)
+    }
+
+    fn names_same(&self, other: &Service) -> bool {
+        self.uuid == other.uuid
+    }
+}
+
+/// A link key of a BR/EDR device.
+#[derive(Clone, PartialEq, Eq, Hash, Debug)]
+pub struct LinkKey {
+    /// The device.
+    pub peer: Peer,
+    /// Key type, 0 to 8.
+    pub key_type: u8,
+    /// The key itself.
+    pub value: [u8; 16],
+    /// Length of the PIN, any.
+    pub pin_length: u8,
+}
+
+impl Record for LinkKey {
+    const LEN: usize = 25;
+
+    fn read(octets: &[u8]) -> LinkKey {
+        LinkKey {
+            peer: Peer::read(&octets[..7]),
+            key_type: octets[7],
+            value: part(octets, 8),
+            pin_length: octets[24],
+        }
+    }
+
+    fn write(&self, out: &mut Vec<u8>) {
+        self.peer.write(out);
+        out.push(self.key_type);
+        out.extend_from_slice(&self.value);
+        out.push(self.pin_length);
+    }
+
+    fn fault(&self) -> Option<Reason> {
+        if self.peer.address_type != BR_EDR {
+            Some(Reason::AddressType)
+        } else {
+            (self.key_type > 8).then_some(Reason::KeyType)
+        }
+    }
+
+    fn names_same(&self, other: &LinkKey) -> bool {
+        self.peer == other.peer
+    }
+}
+
+/// A long term key of an LE device.
+#[derive(Clone, PartialEq, Eq, Hash, Debug)]
+pub struct LongTermKey {
+    /// The device's identity.
+    pub peer: Peer,
+    /// Key type, 0 to 4.
+    pub key_type: u8,
+    /// 0 or 1; a device may have a key for each.
+    pub master: u8,
+    /// Encryption size, 7 to 16.
+    pub size: u8,
+    /// Encryption diversifier.
+    pub diversifier: [u8; 2],
+    /// Random number.
+    pub random: [u8; 8],
+    /// The key itself.
+    pub value: [u8; 16],
+}
+
+impl Record for LongTermKey {
+    const LEN: usize = 36;
+
+    fn read(octets: &[u8]) -> LongTermKey {
+        LongTermKey {
+            peer: Peer::read(&octets[..7]),
+            key_type: octets[7],
+            master: octets[8],
+            size: octets[9],
+            diversifier: part(octets, 10),
+            random: part(octets, 12),
+            value: part(octets, 20),
+        }
+    }
+
+    fn write(&self, out: &mut Vec<u8>) {
+        self.peer.write(out);
+        out.extend_from_slice(&[self.key_type, self.master, self.size]);
+        out.extend_from_slice(&self.diversifier);
+        out.extend_from_slice(&self.random);
+        out.extend_from_slice(&self.value);
+    }
+
+    fn fault(&self) -> Option<Reason> {
+        if let Some(reason) = self.peer.identity_fault() {
+            Some(reason)
+        } else if self.key_type > 4 {
+            Some(Reason::KeyType)
+        } else if self.master > 1 {
+            Some(Reason::Master)
+        } else {
+            (!(7..=16).contains(&self.size)).then_some(Reason::KeySize)
+        }
+    }
+
+    fn names_same(&self, other: &LongTermKey) -> bool {
+        self.peer == other.peer && self.master == other.master
+    }
+}
+
+/// An identity resolving key of an LE device.
+#[derive(Clone, PartialEq, Eq, Hash, Debug)]
+pub struct IdentityKey {
+    /// The device's identity.
+    pub peer: Peer,
+    /// The key itself.
+    pub value: [u8; 16],
+}
+
+impl Record for IdentityKey {
+    const LEN: usize = 23;
+
+    fn read(octets: &[u8]) -> IdentityKey {
+        IdentityKey { peer: Peer::read(&octets[..7]), value: part(octets, 7) }
+    }
+
+    fn write(&self, out: &mut Vec<u8>) {
+        self.peer.write(out);
+        out.extend_from_slice(&self.value);
+    }
+
+    fn fault(&self) -> Option<Reason> {
+        self.peer.identity_fault()
+    }
+
+    fn names_same(&self, other: &IdentityKey) -> bool {
+        self.peer == other.peer
+    }
+}
+
+/// A device of the action list.
+#[derive(Clone, PartialEq, Eq, Hash, Debug)]
+pub struct Device {
+    /// The device.
+    pub peer: Peer,
+    /// 0 background scan, 1 allow incoming, 2 auto-connect.
+    pub action: u8,
+}
+
+impl Record for Device {
+    const LEN: usize = 8;
+
+    fn read(octets: &[u8]) -> Device {
+        Device { peer: Peer::read(&octets[..7]), action: octets[7] }
+    }
+
+    fn write(&self, out: &mut Vec<u8>) {
+        self.peer.write(out);
+        out.push(self.action);
+    }
+
+    fn fault(&self) -> Option<Reason> {
+        if let Some(reason) = self.peer.fault() {
+            Some(reason)
+        } else if self.action > 2 {
+            Some(Reason::Action)
+        } else {
+            let wrong = self.peer.address_type == BR_EDR && self.action != 1;
+            wrong.then_some(Reason::ActionForType)
+        }
+    }
+
+    fn names_same(&self, other: &Device) -> bool {
+        self.peer == other.peer
+    }
+}
+
+/// The first rule that a list of entries breaks: one by itself, or two that
+/// name the same thing.
+pub fn list_fault<R: Record>(records: &[R]) -> Option<Reason> {
+    let alone = records.iter().find_map(|record| record.fault());
+    alone.or_else(|| has_repeat(records).then_some(Reason::Repeated))
+}
+
+/// Whether two of the entries name the same thing.
+fn has_repeat<R: Record>(records: &[R]) -> bool {
+    let repeated = |k: usize| records[..k].iter().any(|earlier| earlier.names_same(&records[k]));
+    (0..records.len()).any(repeated)
+}

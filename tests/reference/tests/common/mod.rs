@@ -1,0 +1,162 @@
+//! What the tests share: packets and replies written out by hand, and hubs in
+//! a wanted state.
+
+#![allow(dead_code)]
+
+use reference::{Hub, Reply};
+
+/// BR/EDR and LE supported.
+pub const DUAL: u32 = 0x0280;
+/// Only BR/EDR supported.
+pub const CLASSIC: u32 = 0x0080;
+/// Only LE supported.
+pub const LE_ONLY: u32 = 0x0200;
+/// The public address that `hub_with` plugs.
+pub const PUBLIC: [u8; 6] = [1, 2, 3, 4, 5, 6];
+/// A static random address.
+pub const STATIC: [u8; 6] = [9, 8, 7, 6, 5, 0xC1];
+/// Invalid Parameters.
+pub const INVALID: u8 = 0x0D;
+
+/// A packet or an event: code, index, length, parameters.
+pub fn frame(code: u16, index: u16, parameters: &[u8]) -> Vec<u8> {
+    let mut out = Vec::new();
+    for number in [code, index, parameters.len() as u16] {
+        out.push((number & 0xFF) as u8);
+        out.push((number >> 8) as u8);
+    }
+    out.extend(parameters);
+    out
+}
+
+/// Command Complete.
+pub fn complete(code: u16, index: u16, status: u8, returned: &[u8]) -> Vec<u8> {
+    let head = [(code & 0xFF) as u8, (code >> 8) as u8, status];
+    frame(1, index, &[&head[..], returned].concat())
+}
+
+/// Command Status.
+pub fn status(code: u16, index: u16, status: u8) -> Vec<u8> {
+    frame(2, index, &[(code & 0xFF) as u8, (code >> 8) as u8, status])
+}
+
+/// The reply and events of a settings command that changed them to this word.
+pub fn changed(code: u16, index: u16, settings: u32) -> Vec<u8> {
+    let word = settings.to_le_bytes();
+    [complete(code, index, 0, &word), frame(6, index, &word)].concat()
+}
+
+/// The reply of a settings command that changed nothing.
+pub fn unchanged(code: u16, index: u16, settings: u32) -> Vec<u8> {
+    complete(code, index, 0, &settings.to_le_bytes())
+}
+
+/// An answer of 0.
+pub fn done(octets: Vec<u8>) -> Reply {
+    Reply { answer: 0, octets }
+}
+
+/// An answer of 2.
+pub fn refused(octets: Vec<u8>) -> Reply {
+    Reply { answer: 2, octets }
+}
+
+/// An answer without octets.
+pub fn bare(answer: u8) -> Reply {
+    Reply { answer, octets: Vec::new() }
+}
+
+/// Sends a command with just enough room.
+pub fn send(hub: &mut Hub, code: u16, index: u16, parameters: &[u8]) -> Reply {
+    hub.command(&frame(code, index, parameters), 1024)
+}
+
+/// A hub with one controller at index 0, as plug leaves it.
+pub fn hub_with(supported: u32) -> Hub {
+    let mut hub = Hub::new();
+    plug(&mut hub, 0, supported);
+    hub
+}
+
+/// Plugs a controller with the usual public address.
+pub fn plug(hub: &mut Hub, index: u64, supported: u32) {
+    let reply = hub.plug(index, &PUBLIC, 6, 0x1234, supported, 1024);
+    assert_eq!(reply, done(frame(4, index as u16, &[])));
+}
+
+/// Sends a command that is started, and reports success.
+pub fn carry_out(hub: &mut Hub, code: u16, index: u16, parameters: &[u8]) -> Vec<u8> {
+    assert_eq!(send(hub, code, index, parameters), bare(1));
+    let reply = hub.report(index.into(), 0, 1024);
+    assert_eq!(reply.answer, 0);
+    reply.octets
+}
+
+/// A hub with one powered and connectable controller at index 0.
+pub fn powered_hub(supported: u32) -> Hub {
+    let mut hub = hub_with(supported);
+    assert_eq!(send(&mut hub, 0x0007, 0, &[1]).answer, 0);
+    carry_out(&mut hub, 0x0005, 0, &[1]);
+    hub
+}
+
+/// A powered hub that is discoverable with a timer of so many seconds.
+pub fn timed_hub(seconds: u16) -> Hub {
+    let mut hub = powered_hub(DUAL);
+    let [low, high] = seconds.to_le_bytes();
+    carry_out(&mut hub, 0x0006, 0, &[1, low, high]);
+    hub
+}
+
+/// The Current_Settings that Read Controller Information shows.
+pub fn settings(hub: &mut Hub, index: u16) -> u32 {
+    let octets = send(hub, 0x0004, index, &[]).octets;
+    u32::from_le_bytes(octets[22..26].try_into().expect("four octets"))
+}
+
+/// The image of a hub.
+pub fn image(hub: &Hub) -> Vec<u8> {
+    let reply = hub.save(16_014);
+    assert_eq!(reply.answer, 0);
+    reply.octets
+}
+
+/// A device address that differs for each number.
+pub fn address(number: u8) -> [u8; 6] {
+    [number, 0x22, 0x33, 0x44, 0x55, 0xC6]
+}
+
+/// Address and type.
+pub fn peer(number: u8, kind: u8) -> Vec<u8> {
+    [&address(number)[..], &[kind]].concat()
+}
+
+/// A UUID and its hint.
+pub fn service(number: u8, hint: u8) -> Vec<u8> {
+    [&[number; 16][..], &[hint]].concat()
+}
+
+/// A link key record.
+pub fn link_key(number: u8) -> Vec<u8> {
+    [peer(number, 0), vec![8], vec![number; 16], vec![200]].concat()
+}
+
+/// A long term key record.
+pub fn long_term_key(number: u8, kind: u8, master: u8) -> Vec<u8> {
+    [peer(number, kind), vec![4, master, 16], vec![number; 26]].concat()
+}
+
+/// An identity resolving key record.
+pub fn identity_key(number: u8, kind: u8) -> Vec<u8> {
+    [peer(number, kind), vec![number; 16]].concat()
+}
+
+/// The parameters of Load Link Keys.
+pub fn link_list(records: &[Vec<u8>]) -> Vec<u8> {
+    [vec![0, records.len() as u8, 0], records.concat()].concat()
+}
+
+/// The parameters of the two LE key lists.
+pub fn le_list(records: &[Vec<u8>]) -> Vec<u8> {
+    [vec![records.len() as u8, 0], records.concat()].concat()
+}
