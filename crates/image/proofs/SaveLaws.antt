@@ -8,22 +8,33 @@ use lib.ListN.{length, getD, take, drop, length-append, drop-of-length-le, take-
 use lib.Seq.{drop-cons, length-take-le}
 use lib.Dec.{eqb, lit≤}
 use mathlib.Core.Bool.{true, false}
+use mathlib.Core.Option.{none, some}
 use Rattle.model.specs.declared.Hardware.{Hardware}
 use Rattle.model.specs.declared.Settings.{Settings}
 use Rattle.model.specs.Octets.{Octets, be16, be32, joined}
-use Rattle.model.specs.State.{Controller, Table, hardwareOk, settingsOf, tableOf}
+use Rattle.model.specs.State.{Controller, PlainHub, Table, hardwareOk, settingsOf, tableOf}
+use Rattle.model.specs.Hub.{finished}
+use Rattle.model.specs.Layout.{controllersIn, decode, encode}
+use Rattle.model.specs.Meanings.{stateOk}
 use Rattle.model.specs.Tables.{TableRule, blockedRule, deviceRule, entries, identityKeyRule, linkKeyRule, longTermKeyRule, tableRules, uuidRule}
-use Rattle.model.specs.Image.{controllerImage, radioOk, tableImage}
-use Rattle.model.specs.WellFormed.{tableOk, tablesOk}
+use Rattle.model.specs.Image.{controllerImage, controllerImages, image, radioOk, tableImage}
+use Rattle.model.specs.WellFormed.{plainOk, tableOk, tablesOk, wellFormed}
 use Rattle.model.specs.Proof.Rows.{controller-fit, ruleAt}
+use Rattle.model.specs.Proof.RoundTrip.{image-most}
+use Rattle.model.specs.Proof.Demand3.{state-back, state-well}
 use Rattle.model.specs.Proof.Tests.{and-true, equal, no-way}
 use Rattle.octets.specs.Parts.{part, placeAt, writeAt, length-part, length-writeAt, write-left, write-right, write-split}
 use Rattle.table.specs.Slots.{InUse, NextUsed, tableAt}
 use Rattle.table.specs.Laws.{in-use-entries, length-table, next-entries, slot-room}
-use Rattle.layout.specs.Places.{Ready, controllerOf, placeOf, tablePlace}
-use Rattle.layout.specs.Reads.{name-at}
+use Rattle.layout.specs.Places.{Ready, controllerOf, placeOf, presentAt, tablePlace}
+use Rattle.layout.specs.Reads.{absent-slot, name-at, present-slot}
 use Rattle.layout.specs.Change.{controller-fine}
 use Rattle.layout.specs.Tables.{table-at}
+use Rattle.outcomes.specs.Outcomes.{ended}
+use Rattle.outcomes.specs.Endings.{ends-done}
+use Rattle.replies.specs.Answers.{Gives}
+use Rattle.replies.specs.declared.Answer.{Answer}
+use Rattle.replies.specs.declared.Answer.the-variants.{Done}
 use Rattle.image.specs.Images.{fixedImage, image-parts, numbersImage}
 
 -- 1. The records of a table ---------------------------------------------------------------------------------------------------------------------
@@ -241,3 +252,108 @@ controller-written s i m d d1 d2 d3 p np r ready em a en b g e =
     let f : d3 ≡ writeAt d1 (p + 24) (y ++ z) = e ∙ rw (b, k) (then d1 (p + 24) y z (p + 284) (omega arith)) in
     let q : d3 ≡ writeAt d p (x ++ (y ++ z)) = f ∙ rw (a, em) (then d p x (y ++ z) (p + 24) (omega arith)) in
     rw (image-parts i c) (g ∙ simp length-append (omega arith), q)
+
+-- 4. The controllers, and the head before them --------------------------------------------------------------------------------------------------------
+
+-- the images of the controllers from index i on
+unfoldable pub imagesFrom : Octets → ℕ → List Octets
+imagesFrom s i = controllerImages i (drop i (decode s .plain .controllers))
+
+-- the images of the controllers from index i on are still to be written, from the place p on; n are written
+pub record SavingAll (s d₀ d : Octets) (p n i : ℕ) : Type 0 where
+  pub long : length d ≡ length d₀
+  pub room : p ≤ 6 + 4002 * i
+  pub few : n ≤ i
+  pub left : writeAt d p (joined (imagesFrom s i)) ≡ writeAt d₀ 6 (joined (imagesFrom s 0))
+  pub goes : p + length (joined (imagesFrom s i)) ≡ 6 + length (joined (imagesFrom s 0))
+  pub counts : n + length (imagesFrom s i) ≡ length (imagesFrom s 0)
+
+-- four slots
+four-slots : (s : Octets) → length (decode s .plain .controllers) ≡ 4
+unfolding decode controllersIn
+four-slots s = refl
+
+module _ (s : Octets) (i : ℕ) (l : i < 4) where
+  slot-here : drop i (decode s .plain .controllers) ≡ getD (decode s .plain .controllers) i none ∷ drop (i + 1) (decode s .plain .controllers)
+  slot-here = let n : suc i ≡ i + 1 = omega arith in rw (← n) (drop-cons (decode s .plain .controllers) i none (rw (four-slots s) l))
+
+  next-index : suc i ≡ i + 1
+  next-index = omega arith
+
+  -- an index with a controller, and one without
+  images-present : presentAt s i ≡ true → imagesFrom s i ≡ controllerImage i (controllerOf s i) ∷ imagesFrom s (i + 1)
+  unfolding imagesFrom controllerImages
+  images-present e = rw (slot-here, present-slot s i e, next-index)
+
+  images-absent : presentAt s i ≡ false → imagesFrom s i ≡ imagesFrom s (i + 1)
+  unfolding imagesFrom controllerImages
+  images-absent e = rw (slot-here, absent-slot s i l e, ← next-index)
+
+pub all-first : (s d₀ : Octets) → SavingAll s d₀ d₀ 6 0 0
+all-first s d₀ = record { long = refl; room = omega arith; few = omega arith; left = refl; goes = refl; counts = omega arith }
+
+module _ (s d₀ d : Octets) (p n i : ℕ) (l : i < 4) (v : SavingAll s d₀ d p n i) where
+  pub all-present : (d′ : Octets) (r : ℕ) → presentAt s i ≡ true → r ≡ p + length (controllerImage i (controllerOf s i)) → r ≤ p + 4002 → d′ ≡ writeAt d p (controllerImage i (controllerOf s i))
+      → SavingAll s d₀ d′ r (n + 1) (i + 1)
+  all-present d′ r e g h w =
+      let x : Octets = controllerImage i (controllerOf s i) in
+      let f : imagesFrom s i ≡ x ∷ imagesFrom s (i + 1) = images-present s i l e in
+      let b = v .room in
+      let k = v .few in
+      let c : n + suc (length (imagesFrom s (i + 1))) ≡ length (imagesFrom s 0) = rw f at (v .counts) in
+      record {
+        long = rw w (length-writeAt d p x) ∙ v .long;
+        room = omega arith;
+        few = omega arith;
+        left = rw (w, g) (sym (write-first d p x (imagesFrom s (i + 1)) (length x) refl)) ∙ (rw f at (v .left));
+        goes = rw g (sym (length-first p x (imagesFrom s (i + 1)) (length x) refl)) ∙ (rw f at (v .goes));
+        counts = omega arith;
+      }
+
+  pub all-absent : presentAt s i ≡ false → SavingAll s d₀ d p n (i + 1)
+  all-absent e =
+      let f : imagesFrom s i ≡ imagesFrom s (i + 1) = images-absent s i l e in
+      let b = v .room in
+      let k = v .few in
+      record { long = v .long; room = omega arith; few = omega arith; left = rw f at (v .left); goes = rw f at (v .goes); counts = rw f at (v .counts) }
+
+-- nothing is left after the last index
+images-end : (s : Octets) (i : ℕ) → 4 ≤ i → imagesFrom s i ≡ []
+unfolding imagesFrom controllerImages
+images-end s i l = let f : drop i (decode s .plain .controllers) ≡ [] = drop-of-length-le (decode s .plain .controllers) {i = i} (rw (four-slots s) l) in rw f
+
+-- the three writes of the head, over controllers that are written behind it
+head-written : (d d1 d2 d3 body : Octets) (p n : ℕ) → 6 ≤ length d → d1 ≡ writeAt (writeAt d 6 body) 0 (be32 p) → d2 ≡ writeAt d1 4 (1 ∷ []) → d3 ≡ writeAt d2 5 (n ∷ []) → d3 ≡ writeAt d 0 (be32 p ++ (1 ∷ n ∷ body))
+unfolding be32
+head-written d d1 d2 d3 body p n l a b c =
+    let e : Octets = writeAt d 6 body in
+    let f : d3 ≡ writeAt d2 5 (n ∷ []) = c in
+    let g : d3 ≡ writeAt d1 4 (1 ∷ n ∷ []) = c ∙ rw b (then d1 4 (1 ∷ []) (n ∷ []) 5 refl) in
+    let h : d3 ≡ writeAt e 0 (be32 p ++ (1 ∷ n ∷ [])) = g ∙ rw a (then e 0 (be32 p) (1 ∷ n ∷ []) 4 refl) in
+    h ∙ write-swap d 0 (be32 p ++ (1 ∷ n ∷ [])) 6 body (omega arith) l ∙ then d 0 (be32 p ++ (1 ∷ n ∷ [])) body 6 refl
+
+-- the hub that a well-formed state stands for is valid
+pub plain-fine : (s : Octets) → stateOk s ≡ true → plainOk (decode s .plain) ≡ true
+unfolding wellFormed
+plain-fine s ok = and-true (plainOk (decode s .plain)) _ (state-well s ok) .0
+
+length-image : (s : Octets) (p : ℕ) → p ≡ 6 + length (joined (imagesFrom s 0)) → length (image (decode s .plain)) ≡ p
+unfolding image imagesFrom be32
+length-image s p g = omega arith
+
+-- the whole image is written
+pub all-written : (s d₀ d d1 d2 d3 : Octets) (p n i : ℕ) (r : Answer) → stateOk s ≡ true → 16014 ≤ length d₀ → 4 ≤ i → SavingAll s d₀ d p n i → d1 ≡ writeAt d 0 (be32 p) → d2 ≡ writeAt d1 4 (1 ∷ []) → d3 ≡ writeAt d2 5 (n ∷ []) → r ≡ Done p
+    → Gives (ended s (finished (image (decode s .plain)) (decode s .plain))) r d₀ d3 s
+unfolding image imagesFrom
+all-written s d₀ d d1 d2 d3 p n i r ok big l v a b c e =
+    let q : imagesFrom s i ≡ [] = images-end s i l in
+    let body : Octets = joined (imagesFrom s 0) in
+    let g : p ≡ 6 + length body = goes-none p _ (rw q at (v .goes)) in
+    let f : n + 0 ≡ length (imagesFrom s 0) = rw q at (v .counts) in
+    let k : n ≡ length (imagesFrom s 0) = omega arith in
+    let w : d ≡ writeAt d₀ 6 body = sym (write-none d p) ∙ (rw q at (v .left)) in
+    let h : d3 ≡ writeAt d₀ 0 (be32 p ++ (1 ∷ n ∷ body)) = head-written d₀ d1 d2 d3 body p n (omega arith) (a ∙ rw w) b c in
+    let m : d3 ≡ writeAt d₀ 0 (image (decode s .plain)) = rw (g, k) at h in
+    let plain : plainOk (decode s .plain) ≡ true = plain-fine s ok in
+    let long : length (image (decode s .plain)) ≡ p = length-image s p g in
+    ends-done s (image (decode s .plain)) (decode s .plain) p d₀ d3 s r e long (omega (arith, image-most (decode s .plain) plain)) m (state-back s ok)

@@ -1,16 +1,23 @@
 // The image: what save writes of a state and load takes. Numbers are big-endian here; addresses, names and records keep packet order.
 ghost use mathlib.Core.Path.{_≡_};
+ghost use mathlib.Core.Bool.{true};
 ghost use Prim.Native.Nat.{_+_, _*_, _≤_, _<_};
 ghost use mathlib.Core.List.{map};
 ghost use lib.ListN.{length};
 ghost use Rattle.model.specs.Octets.{joined};
 ghost use Rattle.model.specs.State.{flag};
-ghost use Rattle.model.specs.Image.{controllerImage, tableImage};
+ghost use Rattle.model.specs.Hub.{finished};
+ghost use Rattle.model.specs.Image.{controllerImage, image, tableImage};
+ghost use Rattle.model.specs.Layout.{decode};
+ghost use Rattle.model.specs.Meanings.{stateOk};
 ghost use Rattle.image.specs.Images.{fixedImage, flagsIn, numbersImage};
 ghost use Rattle.layout.specs.Places.{Ready, controllerOf};
 ghost use Rattle.octets.specs.Parts.{writeAt};
+ghost use Rattle.outcomes.specs.Outcomes.{ended};
+ghost use Rattle.replies.specs.Answers.{Gives};
 ghost use Rattle.table.specs.Slots.{tableAt};
 use model::Settings;
+use replies::Answer;
 
 // Writes the image of a table at a place: how many records it has, and the records in slot order. Gives the place behind it.
 pub fn save_records(state: &[u8], at: usize, size: usize, out: &mut [u8], place: usize) -> usize
@@ -110,4 +117,25 @@ pub fn save_controller(state: &[u8], index: u64, out: &mut [u8], place: usize) -
     save_fixed(m, index, out, place);
     octets::copy_part(out, place + 24, state, layout::name_place(index), 260);
     save_tables(state, index, out, place + 284)
+}
+
+// Writes the image of the state: the controllers in ascending order, then the head before them, which says how long all is and how many there are.
+pub fn save(state: &[u8], out: &mut [u8]) -> Answer
+    requires { ⌜ (stateOk (now state) ≡ true) × (16014 ≤ length (now out)) ⌝ }
+    ensures { λ r. ⌜ Gives (ended (now (state .entry)) (finished (image (decode (now (state .entry)) .plain)) (decode (now (state .entry)) .plain))) r (now (out .entry)) (now (out .exit)) (now (state .entry)) ⌝ }
+{
+    let mut place: usize = 6;
+    let mut count: u8 = 0;
+    let mut index: u64 = 0;
+    while index < 4 {
+        if layout::present(state, index) {
+            place = save_controller(state, index, out, place);
+            count += 1;
+        }
+        index += 1;
+    }
+    octets::put_be32(out, 0, place as u64);
+    octets::put8(out, 4, 1);
+    octets::put8(out, 5, count);
+    Answer::Done(place)
 }
