@@ -43,7 +43,13 @@ fn save_tables(state: &[u8], index: u64, out: &mut [u8], place: usize) -> usize
     let mut p = place;
     let mut k: usize = 0;
     while k < 6 {
-        p = save_records(state, layout::table_place(index, k), records::size_of(k), out, p);
+        p = save_records(
+            state,
+            layout::table_place(index, k),
+            records::size_of(k),
+            out,
+            p,
+        );
         k += 1;
     }
     p
