@@ -1,0 +1,25 @@
+-- The parts of a controller's image that the contracts cite, in the order in which they lie.
+use Prim.Native.Nat.{ℕ, _+_}
+use mathlib.Core.Path.{_≡_, refl}
+use mathlib.Core.List.{List, [], _∷_, _++_, map, append-assoc}
+use Rattle.model.specs.declared.Settings.{Settings}
+use Rattle.model.specs.Octets.{Octets, be16, be32, joined}
+use Rattle.model.specs.State.{Controller, flag, settingsOf}
+use Rattle.model.specs.Image.{controllerImage, flagsOf, tableImage}
+
+-- "flags 4 (only bits 1, 4, 9)", of the settings
+unfoldable pub flagsIn : Settings → ℕ
+flagsIn m = flag (m .radio .connectable) 2 + flag (m .host .bondable) 16 + flag (m .radio .lowEnergy) 512
+
+-- version 1, manufacturer 2, supported 4, flags 4
+unfoldable pub numbersImage : Settings → Octets
+numbersImage m = m .radio .hardware .version ∷ (be16 (m .radio .hardware .manufacturer) ++ (be32 (m .radio .hardware .supported) ++ be32 (flagsIn m)))
+
+-- index 1, public address 6, the numbers 11, static address 6
+unfoldable pub fixedImage : ℕ → Settings → Octets
+fixedImage i m = i ∷ (m .radio .hardware .publicAddress ++ (numbersImage m ++ m .radio .staticAddress))
+
+-- a controller's image: the fixed part, the name, the tables
+pub image-parts : (i : ℕ) (c : Controller) → controllerImage i c ≡ fixedImage i (settingsOf c) ++ (c .host .name ++ joined (map tableImage (c .host .tables)))
+unfolding controllerImage flagsOf fixedImage numbersImage flagsIn settingsOf
+image-parts i c = simp append-assoc

@@ -1,0 +1,147 @@
+// The image: what save writes of a state and load takes. Numbers are big-endian here; addresses, names and records keep packet order.
+ghost use mathlib.Core.Path.{_≡_};
+ghost use mathlib.Core.Bool.{true};
+ghost use Prim.Native.Nat.{_+_, _*_, _≤_, _<_};
+ghost use mathlib.Core.List.{map};
+ghost use lib.ListN.{length};
+ghost use Rattle.model.specs.Octets.{joined};
+ghost use Rattle.model.specs.State.{flag};
+ghost use Rattle.model.specs.Hub.{finished};
+ghost use Rattle.model.specs.Image.{controllerImage, image, tableImage};
+ghost use Rattle.model.specs.Layout.{decode};
+ghost use Rattle.model.specs.Meanings.{stateOk};
+ghost use Rattle.image.specs.Images.{fixedImage, flagsIn, numbersImage};
+ghost use Rattle.layout.specs.Places.{Ready, controllerOf};
+ghost use Rattle.octets.specs.Parts.{writeAt};
+ghost use Rattle.outcomes.specs.Outcomes.{ended};
+ghost use Rattle.replies.specs.Answers.{Gives};
+ghost use Rattle.table.specs.Slots.{tableAt};
+use model::Settings;
+use replies::Answer;
+
+// Writes the image of a table at a place: how many records it has, and the records in slot order. Gives the place behind it.
+pub fn save_records(state: &[u8], at: usize, size: usize, out: &mut [u8], place: usize) -> usize
+    requires { ⌜ (at + (4 + size * 32) ≤ length (now state)) × (place + (1 + size * 32) ≤ length (now out)) ⌝ }
+    ensures { λ r. ⌜ (r ≡ place + length (tableImage (tableAt (now (state .entry)) at size))) × (r ≤ place + (1 + size * 32)) × (now (out .exit) ≡ writeAt (now (out .entry)) place (tableImage (tableAt (now (state .entry)) at size))) ⌝ }
+{
+    octets::put8(out, place, table::used(state, at) as u8);
+    let mut p = place + 1;
+    let mut slot = table::next_used(state, at, 0);
+    while slot < 32 {
+        octets::copy_part(out, p, state, at + (4 + size * slot), size);
+        p = p + size;
+        slot = table::next_used(state, at, slot + 1);
+    }
+    p
+}
+
+// Writes the images of the six tables of the controller at an index. Gives the place behind them.
+fn save_tables(state: &[u8], index: u64, out: &mut [u8], place: usize) -> usize
+    requires { ⌜ Ready (now state) index × (place + 3718 ≤ length (now out)) ⌝ }
+    ensures { λ r. ⌜ (r ≡ place + length (joined (map tableImage (controllerOf (now (state .entry)) index .host .tables)))) × (r ≤ place + 3718) × (now (out .exit) ≡ writeAt (now (out .entry)) place (joined (map tableImage (controllerOf (now (state .entry)) index .host .tables)))) ⌝ }
+{
+    let mut p = place;
+    let mut k: usize = 0;
+    while k < 6 {
+        p = save_records(
+            state,
+            layout::table_place(index, k),
+            records::size_of(k),
+            out,
+            p,
+        );
+        k += 1;
+    }
+    p
+}
+
+// The value of a flag that is on or off.
+fn flag_of(b: bool, n: u64) -> u64
+    ensures { λ r. ⌜ (r ≡ flag b n) × (r ≤ n) ⌝ }
+{
+    if b { n } else { 0 }
+}
+
+// The flags that the image keeps: connectable, bondable, Low Energy.
+fn flags_of(m: Settings) -> u64
+    ensures { λ r. ⌜ r ≡ flagsIn m ⌝ }
+{
+    let r = m.radio;
+    let h = m.host;
+    let connectable = flag_of(r.connectable, 2);
+    let bondable = flag_of(h.bondable, 16);
+    let low_energy = flag_of(r.lowEnergy, 512);
+    connectable + bondable + low_energy
+}
+
+// The numbers of a controller, as they lie in the image.
+fn numbers(m: Settings) -> [u8; 11]
+    ensures { λ r. ⌜ r ≡ numbersImage m ⌝ }
+{
+    let r = m.radio;
+    let f = r.hardware;
+    let a = f.manufacturer;
+    let s = f.supported;
+    let g = flags_of(m);
+    [
+        f.version,
+        (a / 256 % 256) as u8,
+        (a % 256) as u8,
+        (s / 16777216 % 256) as u8,
+        (s / 65536 % 256) as u8,
+        (s / 256 % 256) as u8,
+        (s % 256) as u8,
+        (g / 16777216 % 256) as u8,
+        (g / 65536 % 256) as u8,
+        (g / 256 % 256) as u8,
+        (g % 256) as u8,
+    ]
+}
+
+// Writes the fixed part of a controller's image but for the name, 24 octets.
+fn save_fixed(m: Settings, index: u64, out: &mut [u8], place: usize)
+    requires { ⌜ (index < 4) × (place + 24 ≤ length (now out)) ⌝ }
+    ensures { λ _. ⌜ now (out .exit) ≡ writeAt (now (out .entry)) place (fixedImage index m) ⌝ }
+{
+    let n = numbers(m);
+    let r = m.radio;
+    let f = r.hardware;
+    let publicAddress = f.publicAddress;
+    let staticAddress = r.staticAddress;
+    octets::copy_into(out, place + 18, &staticAddress);
+    octets::copy_into(out, place + 1, &publicAddress);
+    octets::copy_into(out, place + 7, &n);
+    octets::put8(out, place, index as u8);
+}
+
+// Writes the image of the controller at an index. Gives the place behind it.
+pub fn save_controller(state: &[u8], index: u64, out: &mut [u8], place: usize) -> usize
+    requires { ⌜ Ready (now state) index × (place + 4002 ≤ length (now out)) ⌝ }
+    ensures { λ r. ⌜ (r ≡ place + length (controllerImage index (controllerOf (now (state .entry)) index))) × (r ≤ place + 4002) × (now (out .exit) ≡ writeAt (now (out .entry)) place (controllerImage index (controllerOf (now (state .entry)) index))) ⌝ }
+{
+    let m = layout::settings_at(state, index);
+    save_fixed(m, index, out, place);
+    octets::copy_part(out, place + 24, state, layout::name_place(index), 260);
+    save_tables(state, index, out, place + 284)
+}
+
+// Writes the image of the state: the controllers in ascending order, then the head before them, which says how long all is and how many there are.
+pub fn save(state: &[u8], out: &mut [u8]) -> Answer
+    requires { ⌜ (stateOk (now state) ≡ true) × (16014 ≤ length (now out)) ⌝ }
+    ensures { λ r. ⌜ Gives (ended (now (state .entry)) (finished (image (decode (now (state .entry)) .plain)) (decode (now (state .entry)) .plain))) r (now (out .entry)) (now (out .exit)) (now (state .entry)) ⌝ }
+{
+    let mut place: usize = 6;
+    let mut count: u8 = 0;
+    let mut index: u64 = 0;
+    while index < 4 {
+        if layout::present(state, index) {
+            place = save_controller(state, index, out, place);
+            count += 1;
+        }
+        index += 1;
+    }
+    octets::put_be32(out, 0, place as u64);
+    octets::put8(out, 4, 1);
+    octets::put8(out, 5, count);
+    Answer::Done(place)
+}
