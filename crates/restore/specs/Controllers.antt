@@ -1,11 +1,11 @@
 -- The controllers of an image, read one after the other and put into the state.
 use mathlib.Core.Path.{_≡_, refl, ap, sym, _∙_}
-use Prim.Native.Nat.{ℕ, zero, suc, _+_, _/_, _%_, _≤_, _<_}
+use Prim.Native.Nat.{ℕ, zero, suc, _+_, _-_, _/_, _%_, _≤_, _<_}
 use native.Mathlib.Omega.{arith}
 use mathlib.Core.Bool.{Bool, true, false, _&&_}
 use mathlib.Core.List.{List, [], _∷_, append-nil}
 use mathlib.Core.Option.{Option, none, some}
-use lib.ListN.{length, getD, take, drop, set, replicate, length-drop, length-set, drop-of-length-le}
+use lib.ListN.{length, getD, take, drop, set, replicate, length-drop, length-take, length-set, drop-of-length-le}
 use lib.Seq.{drop-drop, getD-drop, sets, sets-eq}
 use lib.Dec.{eqb, leb, ltb}
 use Rattle.model.specs.declared.Hardware.{Hardware}
@@ -22,13 +22,14 @@ use Rattle.model.specs.Meanings.{stateOk}
 use Rattle.model.specs.Proof.Demand3.{state-well}
 use Rattle.model.specs.Proof.Load.{controller-load, le-of, tested, then}
 use Rattle.model.specs.Proof.Rows.{controller-fit, fit-controller, fit-widths, widths-fit}
+use Rattle.model.specs.Proof.Tables.{bytes-drop}
 use Rattle.model.specs.Proof.Tests.{and-true, both, equal, no-way}
 use Rattle.octets.specs.Parts.{part}
 use Rattle.rules.specs.Effects.{withSettings}
 use Rattle.layout.specs.Places.{Ready, controllerOf, openAt, presentAt, putController}
 use Rattle.layout.specs.Reads.{absent-open}
 use Rattle.layout.specs.Filled.{plugged-fine}
-use Rattle.restore.specs.Filling.{Holds, held-controller, held-put, held-ready, withTables}
+use Rattle.restore.specs.Filling.{Holds, found, found-some, held-controller, held-open, held-put, held-ready, some-found, withTables}
 
 -- 1. The fixed part of a controller ---------------------------------------------------------------------------------------------------------------------
 
@@ -206,3 +207,88 @@ module _ (s₀ : Octets) (i : ℕ) (o : Octets) (c : Parsed Controller) (ok : st
       let b : controllerOf s i ≡ d = held-controller (decode s₀) i s d x in
       let z : withTables d 0 (y .tables .value) ≡ c .value = six-tables (parseRadio o .hardware) d (y .tables .value) (controller-fit v read-fine .tables) refl ∙ y .value in
       held-put (decode s₀) i s d x t (c .value) (y .fine) (rw (b, z) at e) .state
+
+-- 4. The controller at a place of an image ---------------------------------------------------------------------------------------------------------------------
+
+-- the index is absent in a well-formed state, and at that place of the image a controller was found
+pub record Awaited (s₀ : Octets) (i : ℕ) (image : Octets) (at : ℕ) : Type 0 where
+  pub ok : stateOk s₀ ≡ true
+  pub below : i < 4
+  pub gone : presentAt s₀ i ≡ false
+  pub wide : bytes image ≡ true
+  pub some : found (parseController (drop at image)) ≡ true
+
+-- the name, as a part of the image
+name-part : (image : Octets) (at : ℕ) → take (at + 283 - (at + 23)) (drop (at + 23) image) ≡ take 260 (drop 23 (drop at image))
+name-part image at = let e : at + 283 - (at + 23) ≡ 260 = omega arith in rw (e, drop-drop 23 at image)
+
+module _ (s₀ : Octets) (i : ℕ) (image : Octets) (at : ℕ) (g : Awaited s₀ i image at) where
+  -- what was found
+  one-found : (c : Parsed Controller) × OneController (drop at image) c
+  one-found =
+      let q = found-some (parseController (drop at image)) (g .some) in
+      (q .0, one-controller (drop at image) (q .0) (bytes-drop at image (g .wide)) (q .1))
+
+  -- its fixed part lies in the image
+  pub fixed-room : at + 283 ≤ length image
+  fixed-room = let n = one-found .1 .long in let e : length (drop at image) ≡ length image - at = length-drop at image in omega arith
+
+  -- the name has its length
+  pub name-long : length (take (at + 283 - (at + 23)) (drop (at + 23) image)) ≡ 260
+  name-long = let n = fixed-room in let e : at + 283 - (at + 23) ≡ 260 = omega arith in rw e (simp (length-take, length-drop) (omega arith))
+
+  module _ (m : Settings) (em : m ≡ imageSettings (drop at image)) where
+    -- the address has six octets
+    pub address-long : length (m .radio .hardware .publicAddress) ≡ 6
+    unfolding imageSettings
+    address-long = rw em (address-six s₀ i (drop at image) (one-found .0) (g .ok) (g .below) (g .gone) (one-found .1))
+
+    module _ (s₁ : Octets) (e₁ : s₁ ≡ encode (putController (decode s₀) i (plugged (m .radio .hardware)))) where
+      -- after the hardware
+      after-hardware : (c : Parsed Controller) → OneController (drop at image) c → Holds (decode s₀) i s₁ (plugged (parseRadio (drop at image) .hardware))
+      unfolding imageSettings
+      after-hardware c y = hardware-held s₀ i (drop at image) c (g .ok) (g .below) (g .gone) y s₁ (rw em at e₁)
+
+      -- the settings may be written
+      pub hardware-ready : Ready s₁ i
+      hardware-ready = held-ready (decode s₀) i s₁ (plugged (parseRadio (drop at image) .hardware)) (after-hardware (one-found .0) (one-found .1))
+
+      module _ (s₂ : Octets) (e₂ : s₂ ≡ encode (putController (decode s₁) i (withSettings (controllerOf s₁ i) m))) where
+        -- after the settings
+        after-settings : (c : Parsed Controller) → OneController (drop at image) c → Holds (decode s₀) i s₂ (controllerWith (drop at image) (replicate 260 0) noTables)
+        after-settings c y = settings-held s₀ i (drop at image) c (g .ok) (g .below) (g .gone) y s₁ s₂ (after-hardware c y) (rw em at e₂)
+
+        -- the name may be written
+        pub settings-ready : Ready s₂ i
+        settings-ready = held-ready (decode s₀) i s₂ (controllerWith (drop at image) (replicate 260 0) noTables) (after-settings (one-found .0) (one-found .1))
+
+        module _ (s₃ : Octets) (e₃ : s₃ ≡ encode (putController (decode s₂) i (withHost (controllerOf s₂ i) (withName (controllerOf s₂ i .host) (take (at + 283 - (at + 23)) (drop (at + 23) image)))))) where
+          -- after the name
+          after-name : (c : Parsed Controller) → OneController (drop at image) c → Holds (decode s₀) i s₃ (controllerWith (drop at image) (take 260 (drop 23 (drop at image))) noTables)
+          after-name c y =
+              name-held s₀ i (drop at image) c (g .ok) (g .below) (g .gone) y s₂ s₃ (take (at + 283 - (at + 23)) (drop (at + 23) image)) (name-part image at) (after-settings c y) e₃
+
+          -- where the tables lie
+          tables-there : (c : Parsed Controller) (y : OneController (drop at image) c) → parseTables (controllerOf s₃ i .radio .hardware) tableRules (drop (at + 283) image) ≡ some (y .tables)
+          tables-there c y = rw (← drop-drop 283 at image) (tables-found s₀ i (drop at image) c (g .ok) (g .below) (g .gone) y s₃ (after-name c y))
+
+          -- the tables may be filled
+          pub name-ready : Ready s₃ i × (openAt s₃ i ≡ none) × (found (parseTables (controllerOf s₃ i .radio .hardware) tableRules (drop (at + 283) image)) ≡ true)
+          name-ready =
+              let d : Controller = controllerWith (drop at image) (take 260 (drop 23 (drop at image))) noTables in
+              let x = after-name (one-found .0) (one-found .1) in
+              (
+                held-ready (decode s₀) i s₃ d x,
+                held-open (decode s₀) i s₃ d x,
+                some-found (parseTables (controllerOf s₃ i .radio .hardware) tableRules (drop (at + 283) image)) (one-found .1 .tables) (tables-there (one-found .0) (one-found .1)),
+              )
+
+          -- after the tables, the state has the controller
+          pub controller-filled : (s₄ : Octets) (r : ℕ)
+              → ((t : Parsed (List Table)) → parseTables (controllerOf s₃ i .radio .hardware) tableRules (drop (at + 283) image) ≡ some t
+              → (s₄ ≡ encode (putController (decode s₃) i (withTables (controllerOf s₃ i) 0 (t .value)))) × (drop r image ≡ t .behind))
+              → (c : Parsed Controller) → parseController (drop at image) ≡ some c → (s₄ ≡ encode (putController (decode s₀) i (c .value))) × (drop r image ≡ c .behind)
+          controller-filled s₄ r f c e =
+              let y = one-controller (drop at image) c (bytes-drop at image (g .wide)) e in
+              let z = f (y .tables) (tables-there c y) in
+              (tables-held s₀ i (drop at image) c (g .ok) (g .below) (g .gone) y s₃ s₄ (after-name c y) (z .0), z .1 ∙ y .behind)

@@ -27,7 +27,7 @@ use Rattle.layout.specs.Places.{Ready, controllerOf, openAt, putController, tab
 use Rattle.layout.specs.Reads.{present-slot}
 use Rattle.layout.specs.Change.{controller-fine}
 use Rattle.layout.specs.Lens.{shaped}
-use Rattle.layout.specs.Kept.{encode-controller, encode-ready, put-well, same-slot}
+use Rattle.layout.specs.Kept.{encode-controller, encode-open, encode-ready, put-well, same-slot}
 use Rattle.layout.specs.Tables.{table-kept, table-written}
 
 -- 1. What a reader found ------------------------------------------------------------------------------------------------------------------------
@@ -42,6 +42,11 @@ pub found-some : {A : Type 0} (x : Option A) → found x ≡ true → (a : A) ×
 unfolding found
 found-some none e = no-way (sym e)
 found-some (some a) e = (a, refl)
+
+-- what is known to be something was found
+pub some-found : {A : Type 0} (x : Option A) (a : A) → x ≡ some a → found x ≡ true
+unfolding found
+some-found x a e = rw e
 
 -- octets of a slice are octets
 pub slice-bytes : (o : Octets) → ((k : ℕ) → getD o k 0 < 256) → bytes o ≡ true
@@ -88,6 +93,11 @@ module _ (h : Hub) (i : ℕ) (s : Octets) (c : Controller) (x : Holds h i s c) w
   -- the controller there
   pub held-controller : controllerOf s i ≡ c
   held-controller = rw (x .state) held-there
+
+  -- nothing is under way there
+  pub held-open : openAt s i ≡ none
+  unfolding putController underWay
+  held-open = rw (x .state) (encode-open (putController h i c) held-well i ∙ x .idle)
 
   -- another controller in its place
   pub held-put : (t : Octets) (d : Controller) → controllerOk d ≡ true → t ≡ encode (putController (decode s) i d) → Holds h i t d

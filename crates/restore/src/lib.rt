@@ -5,14 +5,15 @@ ghost use mathlib.Core.Option.{none, some};
 ghost use mathlib.Core.List.{List};
 ghost use Prim.Native.Nat.{_+_, _≤_, _<_};
 ghost use lib.ListN.{length, drop};
-ghost use Rattle.model.specs.State.{Controller, Table};
+ghost use Rattle.model.specs.State.{Controller, PlainHub, Table, idle};
 ghost use Rattle.model.specs.Tables.{tableRules};
-ghost use Rattle.model.specs.Image.{Parsed, parseController, parseTables};
+ghost use Rattle.model.specs.Image.{Parsed, load, parseController, parseTables};
 ghost use Rattle.model.specs.Layout.{decode, encode};
 ghost use Rattle.model.specs.Meanings.{stateOk};
 ghost use Rattle.layout.specs.Places.{Ready, controllerOf, openAt, presentAt, putController};
 ghost use Rattle.restore.specs.Filling.{found, withTables};
 ghost use Rattle.restore.specs.Controllers.{imageSettings};
+ghost use Rattle.restore.specs.Loading.{accepted};
 use model::Hardware;
 use model::HostSettings;
 use model::RadioSettings;
@@ -82,4 +83,18 @@ fn fill_controller(state: &mut [u8], index: u64, image: &[u8], at: usize) -> usi
     layout::put_settings(state, index, m);
     layout::put_name(state, index, &image[at + 23..at + 283]);
     fill_tables(state, index, image, at + 283)
+}
+
+// Fills the state from an image that was accepted.
+pub fn fill(state: &mut [u8], image: &[u8])
+    requires { ⌜ (length (now state) ≡ 16116) × (accepted (now image) ≡ true) ⌝ }
+    ensures { λ _. ⌜ ((p : PlainHub) → load (now (image .entry)) ≡ some p → now (state .exit) ≡ encode (idle p)) ⌝ }
+{
+    octets::zero_fill(state, 0, 16116);
+    let mut left = image[5];
+    let mut at: usize = 6;
+    while 0 < left {
+        at = fill_controller(state, image[at] as u64, image, at + 1);
+        left = left - 1;
+    }
 }
