@@ -1,0 +1,3 @@
+pub mod Filling
+pub mod Controllers
+pub mod Loading

@@ -1,0 +1,100 @@
+// The state filled from an image that was accepted: one controller after the other, each from its fixed part and its six tables.
+ghost use mathlib.Core.Path.{_≡_};
+ghost use mathlib.Core.Bool.{false, true};
+ghost use mathlib.Core.Option.{none, some};
+ghost use mathlib.Core.List.{List};
+ghost use Prim.Native.Nat.{_+_, _≤_, _<_};
+ghost use lib.ListN.{length, drop};
+ghost use Rattle.model.specs.State.{Controller, PlainHub, Table, idle};
+ghost use Rattle.model.specs.Tables.{tableRules};
+ghost use Rattle.model.specs.Image.{Parsed, load, parseController, parseTables};
+ghost use Rattle.model.specs.Layout.{decode, encode};
+ghost use Rattle.model.specs.Meanings.{stateOk};
+ghost use Rattle.layout.specs.Places.{Ready, controllerOf, openAt, presentAt, putController};
+ghost use Rattle.restore.specs.Filling.{found, withTables};
+ghost use Rattle.restore.specs.Controllers.{imageSettings};
+ghost use Rattle.restore.specs.Loading.{accepted};
+use model::Hardware;
+use model::HostSettings;
+use model::RadioSettings;
+use model::Settings;
+use model::Timer;
+
+// Fills the six tables of the controller at an index from those that lie at a place of the image. Gives the place behind them.
+fn fill_tables(state: &mut [u8], index: u64, image: &[u8], at: usize) -> usize
+    requires { ⌜ Ready (now state) index × (openAt (now state) index ≡ none) × (found (parseTables (controllerOf (now state) index .radio .hardware) tableRules (drop at (now image))) ≡ true) ⌝ }
+    ensures { λ r. ⌜ ((m : Parsed (List Table)) → parseTables (controllerOf (now (state .entry)) index .radio .hardware) tableRules (drop at (now (image .entry))) ≡ some m → (now (state .exit) ≡ encode (putController (decode (now (state .entry))) index (withTables (controllerOf (now (state .entry)) index) 0 (m .value)))) × (drop r (now (image .entry)) ≡ m .behind)) ⌝ }
+{
+    let mut p = at;
+    let mut k: usize = 0;
+    while k < 6 {
+        let n = image[p] as usize;
+        let size = records::size_of(k);
+        table::load(state, layout::table_place(index, k), size, image, p + 1, n);
+        p = p + 1 + size * n;
+        k += 1;
+    }
+    p
+}
+
+// The settings that the fixed part of a controller gives it, which lies at a place of the image.
+fn settings_in(image: &[u8], at: usize) -> Settings
+    requires { ⌜ at + 283 ≤ length (now image) ⌝ }
+    ensures { λ r. ⌜ r ≡ imageSettings (drop at (now (image .entry))) ⌝ }
+{
+    let publicAddress = octets::six(image, at);
+    let manufacturer = octets::be16_at(image, at + 7) as u16;
+    let supported = octets::be32_at(image, at + 9) as u32;
+    let flags = octets::be32_at(image, at + 13);
+    let staticAddress = octets::six(image, at + 17);
+    let hardware = Hardware {
+        publicAddress,
+        version: image[at + 6],
+        manufacturer,
+        supported,
+    };
+    let radio = RadioSettings {
+        hardware,
+        powered: false,
+        connectable: flags / 2 % 2 == 1,
+        lowEnergy: flags / 512 % 2 == 1,
+        staticAddress,
+    };
+    let timer = Timer {
+        discoverable: false,
+        seconds: 0,
+    };
+    let host = HostSettings {
+        timer,
+        bondable: flags / 16 % 2 == 1,
+    };
+    Settings { radio, host }
+}
+
+// Fills the block of the absent index with the controller that lies at a place of the image, behind its index. Gives the place behind it.
+fn fill_controller(state: &mut [u8], index: u64, image: &[u8], at: usize) -> usize
+    requires { ⌜ (stateOk (now state) ≡ true) × (index < 4) × (presentAt (now state) index ≡ false) × (found (parseController (drop at (now image))) ≡ true) ⌝ }
+    ensures { λ r. ⌜ ((c : Parsed Controller) → parseController (drop at (now (image .entry))) ≡ some c → (now (state .exit) ≡ encode (putController (decode (now (state .entry))) index (c .value))) × (drop r (now (image .entry)) ≡ c .behind)) ⌝ }
+{
+    let m = settings_in(image, at);
+    let r = m.radio;
+    let f = r.hardware;
+    layout::fill_block(state, index, f);
+    layout::put_settings(state, index, m);
+    layout::put_name(state, index, &image[at + 23..at + 283]);
+    fill_tables(state, index, image, at + 283)
+}
+
+// Fills the state from an image that was accepted.
+pub fn fill(state: &mut [u8], image: &[u8])
+    requires { ⌜ (length (now state) ≡ 16116) × (accepted (now image) ≡ true) ⌝ }
+    ensures { λ _. ⌜ ((p : PlainHub) → load (now (image .entry)) ≡ some p → now (state .exit) ≡ encode (idle p)) ⌝ }
+{
+    octets::zero_fill(state, 0, 16116);
+    let mut left = image[5];
+    let mut at: usize = 6;
+    while 0 < left {
+        at = fill_controller(state, image[at] as u64, image, at + 1);
+        left = left - 1;
+    }
+}
