@@ -1,0 +1,89 @@
+// A command to the function that serves it.
+ghost use mathlib.Core.Path.{_≡_};
+ghost use Rattle.dispatch.specs.Codes.{member, settingsCodes, keyCodes, deviceCodes, informationCodes, controllerCodes};
+
+// Whether a code is that of a settings command.
+fn is_settings(code: u64) -> bool
+    ensures { λ r. ⌜ r ≡ member code settingsCodes ⌝ }
+{
+    if code == 0x05 {
+        return true;
+    }
+    if code == 0x06 {
+        return true;
+    }
+    if code == 0x07 {
+        return true;
+    }
+    if code == 0x09 {
+        return true;
+    }
+    if code == 0x0D {
+        return true;
+    }
+    code == 0x2B
+}
+
+// Whether a code is that of a key list or Unpair Device.
+fn is_keys(code: u64) -> bool
+    ensures { λ r. ⌜ r ≡ member code keyCodes ⌝ }
+{
+    if code == 0x12 {
+        return true;
+    }
+    if code == 0x13 {
+        return true;
+    }
+    if code == 0x30 {
+        return true;
+    }
+    code == 0x1B
+}
+
+// Whether a code is that of a command on UUIDs, blocked devices or devices.
+fn is_devices(code: u64) -> bool
+    ensures { λ r. ⌜ r ≡ member code deviceCodes ⌝ }
+{
+    if code == 0x10 {
+        return true;
+    }
+    if code == 0x11 {
+        return true;
+    }
+    if code == 0x26 {
+        return true;
+    }
+    if code == 0x27 {
+        return true;
+    }
+    if code == 0x33 {
+        return true;
+    }
+    code == 0x34
+}
+
+// Whether a code is that of Read Controller Information or Set Local Name.
+fn is_information(code: u64) -> bool
+    ensures { λ r. ⌜ r ≡ member code informationCodes ⌝ }
+{
+    if code == 0x04 {
+        return true;
+    }
+    code == 0x0F
+}
+
+// Whether a code is that of a command to a controller.
+fn to_controller(code: u64) -> bool
+    ensures { λ r. ⌜ r ≡ member code controllerCodes ⌝ }
+{
+    if is_settings(code) {
+        return true;
+    }
+    if is_keys(code) {
+        return true;
+    }
+    if is_devices(code) {
+        return true;
+    }
+    is_information(code)
+}
