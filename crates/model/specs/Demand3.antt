@@ -1,10 +1,10 @@
 -- Demand 3, the statement: every list of calls with a slow radio equals the same list, reduced, on a hub that needs no radio.
-use Prim.Native.Nat.{ℕ, zero, suc, _+_, _*_}
+use Prim.Native.Nat.{ℕ, _+_}
 use mathlib.Core.Path.{_≡_}
 use mathlib.Core.Bool.{Bool, true, false, _&&_}
 use mathlib.Core.List.{List, [], _∷_, _++_}
 use mathlib.Core.Option.{Option, none, some}
-use lib.ListN.{length, getD, set, replicate}
+use lib.ListN.{getD, set, replicate}
 use lib.Dec.{eqb}
 use Rattle.model.specs.Octets.{Octets, bytes, commandStatus}
 use Rattle.model.specs.Hub.{Call, command, report, clock, plug, unplug, save, Result, indexOf, codeOf}
@@ -35,6 +35,7 @@ module _ {S : Type 0} (run : S → Call → Result S) where
 abbrev pub Pending : Type 0
 Pending = List (Option Octets)
 
+-- no command is open
 unfoldable pub noPending : Pending
 noPending = replicate 4 none
 
@@ -51,9 +52,11 @@ pub record Sorted : Type 0 where
   pub pending : Pending
   pub left : List Left
 
+-- an entry that leaves nothing
 unfoldable pub struck : Pending → Sorted
 struck k = record { pending = k; left = [] }
 
+-- an entry that leaves its call
 unfoldable pub kept : Pending → Call → ℕ → Octets → Sorted
 kept k c a o = record { pending = k; left = record { call = c; answer = a; owed = []; octets = o } ∷ [] }
 

@@ -1,12 +1,13 @@
 -- The calls. `callPlain` is the at-once hub: the rules with nothing under way. `call` is our hub, and says only where ours differs.
-use Prim.Native.Nat.{ℕ, zero, suc, _+_, _-_, _*_, _%_, _^_}
-use mathlib.Core.Bool.{Bool, true, false, _&&_, _||_, not}
+use Prim.Native.Nat.{ℕ, suc, _+_, _-_, _%_, _^_}
+use mathlib.Core.Bool.{Bool, true, false, _&&_, not}
 use mathlib.Core.List.{List, [], _∷_, _++_, map}
 use mathlib.Core.Option.{Option, none, some}
 use lib.ListN.{length, getD, take, drop, set}
 use lib.Dec.{eqb, leb, ltb}
 use Rattle.model.specs.Octets.{Octets, le32, u16, event, commandComplete, commandStatus}
-use Rattle.model.specs.State.{Hardware, RadioSettings, Timer, Controller, PlainHub, OpenCommand, Hub, currentSettings, settingsOf, controllerAt, withController, plugged, hardwareOk, noTimer, withTimer, withHost}
+use Rattle.model.specs.State.{Hardware, RadioSettings, Timer, Controller, PlainHub, OpenCommand, Hub, currentSettings, settingsOf, controllerAt, withController}
+use Rattle.model.specs.State.{plugged, hardwareOk, noTimer, withTimer, withHost}
 use Rattle.model.specs.Reasons.{Reason, codeUnknown, indexNotNone, controllerAbsent, lengthWrong, statusOf, firstOf, passes}
 use Rattle.model.specs.Rules.{Immediate, refuse, done, RadioRule, ImmediateRule, Rule, general, immediate, radio, newSettings}
 use Rattle.model.specs.Commands.{rule}
@@ -29,6 +30,7 @@ pub record RefusalForm : Type 0 where
   pub code : ℕ
   pub address : Option Octets
 
+-- what a call comes to: answers 0, 2, 3, 4 and 6 (5 is Meanings.antt's, 7 is load's, and 1 only our hub gives)
 pub data Outcome : Type 0 where
   finished : Octets → PlainHub → Outcome  -- the octets written and the new state
   refused : RefusalForm → Reason → Outcome
@@ -71,13 +73,16 @@ pub data Verdict : Type 0 where
   anyway : Outcome → Verdict
   unlessBusy : Outcome → Bool → Verdict
 
+-- what it comes to with nothing under way
 unfoldable pub outcome : Verdict → Outcome
 outcome (anyway o) = o
 outcome (unlessBusy o w) = o
 
+-- "All are Command Status with the received index"
 unfoldable pub byStatus : ℕ → ℕ → RefusalForm
 byStatus i code = record { index = i; code = code; address = none }
 
+-- "except that the address commands answer, after the length check, by Command Complete": the received address and type are 7 octets
 unfoldable pub refusalForm : Bool → ℕ → ℕ → Octets → RefusalForm
 refusalForm true i code ps = record { index = i; code = code; address = some (take 7 ps) }
 refusalForm false i code ps = byStatus i code
@@ -101,14 +106,17 @@ acted p i code ps r c =
     let d : Controller = r .effect c ps in
     finished (commandComplete i code 0 (le32 (currentSettings (settingsOf d))) ++ newSettings i c d) (withController p i (some d))
 
+-- the checks after Busy: Rejected, else the command acts, after the radio's report where it waits
 unfoldable pub radioAfterBusy : PlainHub → ℕ → ℕ → Octets → RadioRule → Controller → Option Reason → Verdict
 radioAfterBusy p i code ps r c (some x) = unlessBusy (refused (byStatus i code) x) false
 radioAfterBusy p i code ps r c none = unlessBusy (acted p i code ps r c) (r .waits (c .radio) ps)
 
+-- the checks before Busy: they answer whatever is under way
 unfoldable pub radioBeforeBusy : PlainHub → ℕ → ℕ → Octets → RadioRule → Controller → Option Reason → Verdict
 radioBeforeBusy p i code ps r c (some x) = anyway (refused (byStatus i code) x)
 radioBeforeBusy p i code ps r c none = radioAfterBusy p i code ps r c (firstOf (r .afterBusy (c .radio) ps))
 
+-- a settings command that can be Busy: index, then parameter length, then its checks
 unfoldable pub radioAt : PlainHub → ℕ → ℕ → Octets → RadioRule → Option Controller → Verdict
 radioAt p i code ps r none = anyway (refused (byStatus i code) controllerAbsent)
 radioAt p i code ps r (some c) = elim (eqb (length ps) (r .size)) [
@@ -134,9 +142,11 @@ byRule p i code ps (some (radio r)) = radioAt p i code ps r (controllerAt p i)
 unfoldable pub codeOf : Octets → ℕ
 codeOf packet = u16 packet 0
 
+-- the index that a packet names
 unfoldable pub indexOf : Octets → ℕ
 indexOf packet = u16 packet 2
 
+-- the parameters of a packet: all octets after the header
 abbrev pub paramsOf : Octets → Octets
 paramsOf packet = drop 6 packet
 
@@ -168,9 +178,11 @@ ends step t = not (eqb (t .seconds) 0) && leb (t .seconds) step
 unfoldable pub countdown : ℕ → Timer → Timer
 countdown step t = elim (ends step t) [ true ↦ noTimer | false ↦ record { discoverable = t .discoverable; seconds = t .seconds - step } ]
 
+-- the timer counted down, and nothing else changed
 unfoldable pub tick : ℕ → Controller → Controller
 tick step c = withHost c (withTimer (c .host) (countdown step (c .host .settings .timer)))
 
+-- the same at an index, where there may be no controller
 unfoldable pub tickSlot : ℕ → Option Controller → Option Controller
 tickSlot step none = none
 tickSlot step (some c) = some (tick step c)
@@ -231,6 +243,7 @@ pub record Result (S : Type 0) : Type 0 where
   pub octets : Octets
   pub state : S
 
+-- what the at-once hub answers: number, octets and state
 unfoldable pub plainCall : PlainHub → Call → Result PlainHub
 plainCall p c = record { answer = answerOf (callPlain p c); octets = octetsOf (callPlain p c); state = stateOf p (callPlain p c) }
 
@@ -238,6 +251,7 @@ plainCall p c = record { answer = answerOf (callPlain p c); octets = octetsOf (c
 unfoldable pub keep : Hub → Outcome → Result Hub
 keep h o = record { answer = answerOf o; octets = octetsOf o; state = record { plain = stateOf (h .plain) o; openCommands = h .openCommands } }
 
+-- the hub with this under way at an index: a command, or nothing
 unfoldable pub withOpen : Hub → ℕ → Option OpenCommand → Hub
 withOpen h i x = record { plain = h .plain; openCommands = set (h .openCommands) i x }
 
@@ -245,6 +259,7 @@ withOpen h i x = record { plain = h .plain; openCommands = set (h .openCommands)
 unfoldable pub underWay : Hub → ℕ → Option OpenCommand
 underWay h i = getD (h .openCommands) i none
 
+-- "command kept": the code and the parameters of its packet
 unfoldable pub openOf : Octets → OpenCommand
 openOf packet = record { code = codeOf packet; params = paramsOf packet }
 
@@ -255,6 +270,7 @@ busyOr h packet o w (some x) = record { answer = 2; octets = commandStatus (inde
 busyOr h packet o true none = record { answer = 1; octets = []; state = withOpen h (indexOf packet) (some (openOf packet)) }
 busyOr h packet o false none = keep h o
 
+-- a command to our hub: only an `unlessBusy` verdict looks at what is under way
 unfoldable pub commandOut : Hub → Octets → Verdict → Result Hub
 commandOut h packet (anyway o) = keep h o
 commandOut h packet (unlessBusy o w) = busyOr h packet o w (underWay h (indexOf packet))
@@ -267,6 +283,7 @@ finishBy p i o (some (immediate q)) s = badArgument
 finishBy p i o (some (radio r)) none = badArgument
 finishBy p i o (some (radio r)) (some c) = acted p i (o .code) (o .params) r c
 
+-- the open command, with its rule and its controller looked up
 unfoldable pub finish : PlainHub → ℕ → OpenCommand → Outcome
 finish p i o = finishBy p i o (rule (o .code)) (controllerAt p i)
 
@@ -277,6 +294,7 @@ startsBy x ps (some (general f)) = false
 startsBy x ps (some (immediate q)) = false
 startsBy x ps (some (radio r)) = eqb (length ps) (r .size) && (passes (r .beforeBusy x ps) && (passes (r .afterBusy x ps) && r .waits x ps))
 
+-- the same of an open command, with its rule looked up
 unfoldable pub starts : RadioSettings → OpenCommand → Bool
 starts x o = startsBy x (o .params) (rule (o .code))
 
@@ -297,6 +315,7 @@ unfoldable pub owedTo : ℕ → Option OpenCommand → Octets
 owedTo i none = []
 owedTo i (some o) = commandStatus i (o .code) 0x11
 
+-- unplug in our hub: the reply owed, then what the at-once hub writes, and nothing is under way there any more
 unfoldable pub unplugged : Hub → ℕ → Outcome → Result Hub
 unplugged h i (finished o p) = record { answer = 0; octets = owedTo i (underWay h i) ++ o; state = record { plain = p; openCommands = set (h .openCommands) i none } }
 unplugged h i (refused f r) = keep h (refused f r)
@@ -304,6 +323,7 @@ unplugged h i badPacket = keep h badPacket
 unplugged h i noRoom = keep h noRoom
 unplugged h i badArgument = keep h badArgument
 
+-- Our hub. Clock, plug and save answer as the at-once hub does and leave what is under way as it is.
 unfoldable pub call : Hub → Call → Result Hub
 call h (command room packet) = commandOut h packet (verdict (h .plain) room packet)
 call h (report room i s) = elim (ltb room 1024) [ true ↦ keep h noRoom | false ↦ reportOut h i s (underWay h i) ]
@@ -314,5 +334,7 @@ call h (save room) = keep h (callPlain (h .plain) (save room))
 
 -- Named on an `unfolding` line, this opens every definition of the module: for examples that are computed.
 unfoldable pub open-hub : Unit {0}
-unfolding answerOf refusalOctets octetsOf stateOf outcome byStatus refusalForm immediateDone immediateAt acted radioAfterBusy radioBeforeBusy radioAt generalOut byRule codeOf indexOf packetOk verdict stepOf ends countdown tick tickSlot tickEvents clockOut plugOut unplugOut within callPlain plainCall keep withOpen underWay openOf busyOr commandOut finishBy finish startsBy starts reportOut owedTo unplugged call
+unfolding answerOf refusalOctets octetsOf stateOf outcome byStatus refusalForm immediateDone immediateAt acted radioAfterBusy radioBeforeBusy radioAt generalOut byRule
+    codeOf indexOf packetOk verdict stepOf ends countdown tick tickSlot tickEvents clockOut plugOut unplugOut within callPlain plainCall keep withOpen underWay openOf
+    busyOr commandOut finishBy finish startsBy starts reportOut owedTo unplugged call
 open-hub = tt

@@ -4,9 +4,9 @@ use mathlib.Core.Bool.{Bool, true, false, _&&_, _||_, not}
 use mathlib.Core.List.{List, [], _∷_, _++_, map}
 use mathlib.Core.Option.{Option, none, some}
 use lib.ListN.{length, getD, take, drop, replicate, set}
-use lib.Dec.{eqb, leb, ltb}
-use Rattle.model.specs.Octets.{Octets, octet, bit, allZero, be16, be32, number, joined}
-use Rattle.model.specs.State.{Hardware, RadioSettings, Host, Controller, PlainHub, Table, flag, bredrSupported, leSupported, hardwareOk, staticAddressOk, nameEnds, shortNameEnds, noTimer}
+use lib.Dec.{eqb, leb}
+use Rattle.model.specs.Octets.{Octets, bit, allZero, be16, be32, number, joined}
+use Rattle.model.specs.State.{Hardware, RadioSettings, Controller, PlainHub, Table, flag, bredrSupported, leSupported, hardwareOk, staticAddressOk, nameEnds, shortNameEnds, noTimer}
 use Rattle.model.specs.Tables.{entries, loaded, chop, TableRule, recordsOk, supportOk, tableRules}
 
 -- Save --------------------------------------------------------------------------------------------------------------------------------------
@@ -23,7 +23,13 @@ flagsOf c = flag (c .radio .connectable) 2 + flag (c .host .settings .bondable) 
 unfoldable pub controllerImage : ℕ → Controller → Octets
 controllerImage i c =
     let f : Hardware = c .radio .hardware in
-    i ∷ (f .publicAddress ++ (f .version ∷ (be16 (f .manufacturer) ++ (be32 (f .supported) ++ (be32 (flagsOf c) ++ (c .radio .staticAddress ++ (c .host .name ++ joined (map tableImage (c .host .tables)))))))))
+    i ∷ (f .publicAddress
+    ++ (f .version ∷ (be16 (f .manufacturer)
+    ++ (be32 (f .supported)
+    ++ (be32 (flagsOf c)
+    ++ (c .radio .staticAddress
+    ++ (c .host .name
+    ++ joined (map tableImage (c .host .tables)))))))))
 
 -- "per controller ascending"
 unfoldable pub controllerImages : ℕ → List (Option Controller) → List Octets
@@ -80,6 +86,7 @@ radioOk r =
 unfoldable pub flagsOk : ℕ → Bool
 flagsOk n = eqb n (flag (bit 1 n) 2 + flag (bit 4 n) 16 + flag (bit 9 n) 512)
 
+-- "last octet of each zero", of name and short name
 unfoldable pub nameOk : Octets → Bool
 nameOk n = nameEnds n && shortNameEnds n
 
@@ -129,20 +136,24 @@ load o =
 unfoldable pub closedUp : Table → Table
 closedUp t = loaded (entries t)
 
+-- a controller with power, discoverable and timer cleared and slots closed up
 unfoldable pub reloaded : Controller → Controller
 reloaded c = record {
   radio = record { hardware = c .radio .hardware; powered = false; connectable = c .radio .connectable; lowEnergy = c .radio .lowEnergy; staticAddress = c .radio .staticAddress };
   host = record { settings = record { timer = noTimer; bondable = c .host .settings .bondable }; name = c .host .name; tables = map closedUp (c .host .tables) };
 }
 
+-- the same at an index, where there may be no controller
 unfoldable pub reloadedSlot : Option Controller → Option Controller
 reloadedSlot none = none
 reloadedSlot (some c) = some (reloaded c)
 
+-- the same of the whole hub: clock cleared too; open commands are no part of it
 unfoldable pub reloadedHub : PlainHub → PlainHub
 reloadedHub p = record { clock = 0; controllers = map reloadedSlot (p .controllers) }
 
 -- Named on an `unfolding` line, this opens every definition of the module: for examples that are computed.
 unfoldable pub open-image : Unit {0}
-unfolding tableImage flagsOf controllerImage controllerImages image tableThen parseTables parseRadio radioOk flagsOk nameOk controllerThen parseController parseControllers load closedUp reloaded reloadedSlot reloadedHub
+unfolding tableImage flagsOf controllerImage controllerImages image tableThen parseTables parseRadio radioOk flagsOk nameOk controllerThen parseController
+    parseControllers load closedUp reloaded reloadedSlot reloadedHub
 open-image = tt

@@ -1,16 +1,18 @@
 -- The commands to a controller that are never Busy.
-use Prim.Native.Nat.{ℕ, zero, suc, _+_, _*_}
+use Prim.Native.Nat.{ℕ, _+_, _*_}
 use mathlib.Core.Bool.{Bool, true, false, _&&_, _||_, not}
 use mathlib.Core.List.{List, [], _∷_, _++_, map, foldr}
 use mathlib.Core.Option.{Option, none, some}
-use lib.ListN.{length, getD, take, drop}
-use lib.Dec.{eqb, leb, ltb}
+use lib.ListN.{length, take, drop}
+use lib.Dec.{eqb, ltb}
 use lib.Bits.{bitOr}
 use Rattle.model.specs.Octets.{Octets, octet, allZero, same, le32, le16, u16, event}
 use Rattle.model.specs.State.{Hardware, Host, Controller, Table, currentSettings, settingsOf, nameEnds, shortNameEnds, withHost, withBondable, withName, tableOf, withTable}
 use Rattle.model.specs.Reasons.{Reason, Check, _⇒_, firstOf}
-use Rattle.model.specs.Reasons.{valueAbove1, nameNotEnded, shortNameNotEnded, uuidAbsent, noFreeSlot, countAbove32, debugFlagAbove1, recordRepeated, addressTypeAbove2, disconnectAbove1, unpowered, notPaired, alreadyBlocked, notBlocked, addressZeroNotBredr, deviceAbsent}
-use Rattle.model.specs.Tables.{entries, holds, distinct, freed, stored, added, full, loaded, chop, begins, TableRule, uuids, linkKeys, longTermKeys, identityKeys, blockedDevices, devices, uuidRule, linkKeyRule, longTermKeyRule, identityKeyRule, blockedRule, deviceRule}
+use Rattle.model.specs.Reasons.{valueAbove1, nameNotEnded, shortNameNotEnded, uuidAbsent, noFreeSlot, countAbove32, debugFlagAbove1, recordRepeated}
+use Rattle.model.specs.Reasons.{addressTypeAbove2, disconnectAbove1, unpowered, notPaired, alreadyBlocked, notBlocked, addressZeroNotBredr, deviceAbsent}
+use Rattle.model.specs.Tables.{entries, holds, distinct, freed, stored, added, full, loaded, chop, begins, TableRule, uuids, linkKeys, longTermKeys, identityKeys}
+use Rattle.model.specs.Tables.{blockedDevices, devices, uuidRule, linkKeyRule, longTermKeyRule, identityKeyRule, blockedRule, deviceRule}
 use Rattle.model.specs.Rules.{Immediate, refuse, done, ImmediateRule, on, newSettings}
 
 -- refused for the first check that fails, else done
@@ -136,6 +138,7 @@ unpaired m h =
     let two : Host = withTable one longTermKeys (freed m (tableOf h longTermKeys)) in
     withTable two identityKeys (freed m (tableOf h identityKeys))
 
+-- there is a key "under this address and type", of any of the three kinds
 unfoldable pub anyKey : (Octets → Bool) → Host → Bool
 anyKey m h = holds m (tableOf h linkKeys) || (holds m (tableOf h longTermKeys) || holds m (tableOf h identityKeys))
 
@@ -224,5 +227,6 @@ readInformation = record {
 
 -- Named on an `unfolding` line, this opens every definition of the module: for examples that are computed.
 unfoldable pub open-immediate : Unit {0}
-unfolding unless sized setBondable setLocalName classOf newClass addUuid removeUuid recordChecks listChecks loadKeys linkKeyList longTermKeyList identityKeyList unpaired anyKey unpairDevice blockDevice unblockDevice addDevice removals removeDevice readInformation
+unfolding unless sized setBondable setLocalName classOf newClass addUuid removeUuid recordChecks listChecks loadKeys linkKeyList longTermKeyList identityKeyList unpaired
+    anyKey unpairDevice blockDevice unblockDevice addDevice removals removeDevice readInformation
 open-immediate = tt

@@ -12,6 +12,7 @@ pub mod Layout
 pub mod Meanings
 pub mod Demand3
 pub mod Examples
+pub mod EasyErrors
 pub mod LazyPrograms
 pub mod Proof
 pub mod Theorems

@@ -1,5 +1,7 @@
 -- The proofs over the model.
 pub mod Tests
+pub mod EveryRow
+pub mod Invariant
 pub mod Commute
 pub mod Tables
 pub mod Rows

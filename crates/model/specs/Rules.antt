@@ -1,15 +1,16 @@
 -- What a command's rule is, and the five settings commands that wait for the radio or can be Busy.
 -- "Then, first that applies: list count above 32, No Resources; values, Invalid Parameters; Not Supported; Not Powered; Busy; Rejected;
 -- last the table answers."
-use Prim.Native.Nat.{ℕ, zero, suc, _+_, _*_}
-use mathlib.Core.Bool.{Bool, true, false, _&&_, _||_, not}
-use mathlib.Core.List.{List, [], _∷_, _++_}
-use lib.ListN.{length, getD}
-use lib.Dec.{eqb, leb, ltb}
+use Prim.Native.Nat.{ℕ}
+use mathlib.Core.Bool.{Bool, true, false, _&&_, not}
+use mathlib.Core.List.{List, [], _∷_}
+use lib.Dec.{eqb, ltb}
 use Rattle.model.specs.Octets.{Octets, octet, allZero, le32, u16, event}
-use Rattle.model.specs.State.{Hardware, RadioSettings, Timer, Host, Controller, PlainHub, currentSettings, settingsOf, bredrSupported, leSupported, staticAddressOk, noTimer, withTimer, withPowered, withConnectable, withLowEnergy, withStaticAddress}
+use Rattle.model.specs.State.{RadioSettings, Host, Controller, PlainHub, currentSettings, settingsOf, bredrSupported, leSupported, staticAddressOk, noTimer}
+use Rattle.model.specs.State.{withTimer, withPowered, withConnectable, withLowEnergy, withStaticAddress}
 use Rattle.model.specs.Reasons.{Reason, Check, _⇒_}
-use Rattle.model.specs.Reasons.{valueAbove1, valueAbove2, timeoutWithValue0, noTimeoutWithValue2, bredrNotSupported, leNotSupported, unpoweredWithTimeout, noAddressForPower, notConnectable, leOffWithoutBredr, poweredForStaticAddress, addressNotStaticRandom}
+use Rattle.model.specs.Reasons.{valueAbove1, valueAbove2, timeoutWithValue0, noTimeoutWithValue2, bredrNotSupported, leNotSupported, unpoweredWithTimeout}
+use Rattle.model.specs.Reasons.{noAddressForPower, notConnectable, leOffWithoutBredr, poweredForStaticAddress, addressNotStaticRandom}
 
 -- 0x0005, 0x0006, 0x0007, 0x000D and 0x002B: the settings commands that can be Busy
 pub record RadioRule : Type 0 where
@@ -48,6 +49,7 @@ newSettings i c d =
       | false ↦ event 0x0006 i (le32 (currentSettings (settingsOf d)))
     ]
 
+-- both on, or both off
 unfoldable pub sameBool : Bool → Bool → Bool
 sameBool true b = b
 sameBool false b = not b

@@ -1,9 +1,9 @@
 -- The state: up to four controllers, index 0 to 3, the clock, and beside them the commands that wait for the radio.
-use Prim.Native.Nat.{ℕ, zero, suc, _+_, _*_}
+use Prim.Native.Nat.{ℕ, _+_}
 use mathlib.Core.Bool.{Bool, true, false, _&&_, _||_, not}
-use mathlib.Core.List.{List, [], _∷_, _++_}
-use mathlib.Core.Option.{Option, none, some}
-use lib.ListN.{length, getD, take, drop, replicate, set}
+use mathlib.Core.List.{List, []}
+use mathlib.Core.Option.{Option, none}
+use lib.ListN.{length, getD, replicate, set}
 use lib.Dec.{eqb, leb, ltb}
 pub use Rattle.model.specs.declared.Hardware.{Hardware}
 pub use Rattle.model.specs.declared.RadioSettings.{RadioSettings}
@@ -54,15 +54,17 @@ idle p = record { plain = p; openCommands = replicate 4 none }
 unfoldable pub controllerAt : PlainHub → ℕ → Option Controller
 controllerAt p i = elim (ltb i 4) [ true ↦ getD (p .controllers) i none | false ↦ none ]
 
+-- the hub with this at an index: a controller, or nothing
 unfoldable pub withController : PlainHub → ℕ → Option Controller → PlainHub
 withController p i x = record { clock = p .clock; controllers = set (p .controllers) i x }
 
 -- Settings ----------------------------------------------------------------------------------------------------------------------------------
 
--- supported settings: bit 7 is BR/EDR, bit 9 is Low Energy
+-- supported settings, bit 7: BR/EDR
 unfoldable pub bredrSupported : Hardware → Bool
 bredrSupported f = bit 7 (f .supported)
 
+-- supported settings, bit 9: Low Energy
 unfoldable pub leSupported : Hardware → Bool
 leSupported f = bit 9 (f .supported)
 
@@ -86,6 +88,7 @@ currentSettings s =
     + flag (s .radio .lowEnergy) 512
     + flag (staticInUse (s .radio)) 32768
 
+-- the settings of a controller, taken together
 unfoldable pub settingsOf : Controller → Settings
 settingsOf c = record { radio = c .radio; host = c .host .settings }
 
@@ -95,6 +98,7 @@ settingsOf c = record { radio = c .radio; host = c .host .settings }
 unfoldable pub noTimer : Timer
 noTimer = record { discoverable = false; seconds = 0 }
 
+-- "six tables of 32 slots", all free
 unfoldable pub noTables : List Table
 noTables = replicate 6 (replicate 32 none)
 
@@ -105,7 +109,8 @@ plugged f = record {
   host = record { settings = record { timer = noTimer; bondable = false }; name = replicate 260 0; tables = noTables };
 }
 
--- what plug and an image may give: six octets of address, no supported bits above 15, bit 7 or 9, and bit 7 only with a public address
+-- what plug and an image may give: 6 or 7 for "an address not 6 octets long, supported bits above 15, neither bit 7 nor 9, or bit 7 with a zero
+-- public address"
 unfoldable pub hardwareOk : Hardware → Bool
 hardwareOk f =
     eqb (length (f .publicAddress)) 6
@@ -123,46 +128,58 @@ staticRandom a = leb 0xC0 (octet a 5)
 unfoldable pub staticAddressOk : Octets → Bool
 staticAddressOk a = allZero a || staticRandom a
 
--- "last octet of each zero": of the name, 249 octets, and of the short name, 11
+-- "name 249, short name 11; last octet of each zero": of the name
 unfoldable pub nameEnds : Octets → Bool
 nameEnds n = eqb (octet n 248) 0
 
+-- the same of the short name
 unfoldable pub shortNameEnds : Octets → Bool
 shortNameEnds n = eqb (octet n 259) 0
 
 -- Parts replaced ------------------------------------------------------------------------------------------------------------------------------
 
+-- the controller with another host part; the radio settings stay
 unfoldable pub withHost : Controller → Host → Controller
 withHost c h = record { radio = c .radio; host = h }
 
+-- with another discoverable timer
 unfoldable pub withTimer : Host → Timer → Host
 withTimer h t = record { settings = record { timer = t; bondable = h .settings .bondable }; name = h .name; tables = h .tables }
 
+-- with another bondable setting
 unfoldable pub withBondable : Host → Bool → Host
 withBondable h b = record { settings = record { timer = h .settings .timer; bondable = b }; name = h .name; tables = h .tables }
 
+-- with another name and short name
 unfoldable pub withName : Host → Octets → Host
 withName h n = record { settings = h .settings; name = n; tables = h .tables }
 
+-- the table at one of the six places
 unfoldable pub tableOf : Host → ℕ → Table
 tableOf h k = getD (h .tables) k []
 
+-- with another table at that place
 unfoldable pub withTable : Host → ℕ → Table → Host
 withTable h k t = record { settings = h .settings; name = h .name; tables = set (h .tables) k t }
 
+-- with another power setting
 unfoldable pub withPowered : RadioSettings → Bool → RadioSettings
 withPowered r b = record { hardware = r .hardware; powered = b; connectable = r .connectable; lowEnergy = r .lowEnergy; staticAddress = r .staticAddress }
 
+-- with another connectable setting
 unfoldable pub withConnectable : RadioSettings → Bool → RadioSettings
 withConnectable r b = record { hardware = r .hardware; powered = r .powered; connectable = b; lowEnergy = r .lowEnergy; staticAddress = r .staticAddress }
 
+-- with another Low Energy setting
 unfoldable pub withLowEnergy : RadioSettings → Bool → RadioSettings
 withLowEnergy r b = record { hardware = r .hardware; powered = r .powered; connectable = r .connectable; lowEnergy = b; staticAddress = r .staticAddress }
 
+-- with another static address
 unfoldable pub withStaticAddress : RadioSettings → Octets → RadioSettings
 withStaticAddress r a = record { hardware = r .hardware; powered = r .powered; connectable = r .connectable; lowEnergy = r .lowEnergy; staticAddress = a }
 
 -- Named on an `unfolding` line, this opens every definition of the module: for examples that are computed.
 unfoldable pub open-state : Unit {0}
-unfolding fresh idle controllerAt withController bredrSupported leSupported flag staticInUse currentSettings settingsOf noTimer noTables plugged hardwareOk staticRandom staticAddressOk nameEnds shortNameEnds withHost withTimer withBondable withName tableOf withTable withPowered withConnectable withLowEnergy withStaticAddress
+unfolding fresh idle controllerAt withController bredrSupported leSupported flag staticInUse currentSettings settingsOf noTimer noTables plugged hardwareOk staticRandom
+    staticAddressOk nameEnds shortNameEnds withHost withTimer withBondable withName tableOf withTable withPowered withConnectable withLowEnergy withStaticAddress
 open-state = tt

@@ -1,14 +1,15 @@
 -- Tables of 32 slots over records of any size, and the rules of the six tables that each controller has.
-use Prim.Native.Nat.{ℕ, zero, suc, _+_, _-_, _*_}
+use Prim.Native.Nat.{ℕ, zero, suc, _+_, _-_}
 use mathlib.Core.Bool.{Bool, true, false, _&&_, _||_, not}
 use mathlib.Core.List.{List, [], _∷_, _++_, map}
-use mathlib.Core.Option.{Option, none, some}
-use lib.ListN.{length, getD, take, drop, replicate, set}
-use lib.Dec.{eqb, leb, ltb}
+use mathlib.Core.Option.{none, some}
+use lib.ListN.{length, take, drop, replicate}
+use lib.Dec.{eqb, ltb}
 use Rattle.model.specs.Octets.{Octets, octet, same, allZero}
 use Rattle.model.specs.State.{Table, Hardware, bredrSupported, leSupported, staticRandom}
 use Rattle.model.specs.Reasons.{Check, _⇒_, passes}
-use Rattle.model.specs.Reasons.{keyTypeAbove8, keyTypeAbove4, masterAbove1, keySizeNot7To16, addressTypeNotBredr, addressTypeNotLe, addressTypeAbove2, addressZero, addressNotStaticRandom, uuidZero, actionAbove2, actionNot1ForBredr, bredrNotSupported, leNotSupported}
+use Rattle.model.specs.Reasons.{keyTypeAbove8, keyTypeAbove4, masterAbove1, keySizeNot7To16, addressTypeNotBredr, addressTypeNotLe, addressTypeAbove2, addressZero}
+use Rattle.model.specs.Reasons.{addressNotStaticRandom, uuidZero, actionAbove2, actionNot1ForBredr, bredrNotSupported, leNotSupported}
 
 -- Slots -------------------------------------------------------------------------------------------------------------------------------------
 
@@ -18,11 +19,12 @@ entries [] = []
 entries (none ∷ t) = entries t
 entries (some r ∷ t) = r ∷ entries t
 
--- some record, and every record, is such a one
+-- some record is such a one
 unfoldable pub any : (Octets → Bool) → List Octets → Bool
 any m [] = false
 any m (r ∷ rs) = m r || any m rs
 
+-- every record is such a one
 unfoldable pub every : (Octets → Bool) → List Octets → Bool
 every m [] = true
 every m (r ∷ rs) = m r && every m rs
@@ -31,7 +33,7 @@ every m (r ∷ rs) = m r && every m rs
 unfoldable pub holds : (Octets → Bool) → Table → Bool
 holds m t = any m (entries t)
 
--- no two are the same
+-- "Two records with one address and type are Invalid Parameters": no two are the same
 unfoldable pub distinct : List Octets → Bool
 distinct [] = true
 distinct (k ∷ ks) = not (any (same k) ks) && distinct ks
@@ -86,6 +88,7 @@ pub record TableRule : Type 0 where
   pub key : Octets → Octets
   pub support : Hardware → List Check
 
+-- there is no record
 unfoldable pub empty : List Octets → Bool
 empty [] = true
 empty (r ∷ rs) = false
@@ -104,31 +107,39 @@ supportOk u f rs = empty rs || passes (u .support f)
 
 -- The six tables ------------------------------------------------------------------------------------------------------------------------------
 
--- their places, in 01's order
+-- their places, in 01's order: UUIDs
 abbrev pub uuids : ℕ
 uuids = 0
 
+-- link keys
 abbrev pub linkKeys : ℕ
 linkKeys = 1
 
+-- long term keys
 abbrev pub longTermKeys : ℕ
 longTermKeys = 2
 
+-- identity resolving keys
 abbrev pub identityKeys : ℕ
 identityKeys = 3
 
+-- blocked devices
 abbrev pub blockedDevices : ℕ
 blockedDevices = 4
 
+-- devices of the action list
 abbrev pub devices : ℕ
 devices = 5
 
+-- UUIDs, blocked devices and devices need no support
 unfoldable pub needsNothing : Hardware → List Check
 needsNothing f = []
 
+-- "Link keys need BR/EDR support"
 unfoldable pub needsBredr : Hardware → List Check
 needsBredr f = (not (bredrSupported f) ⇒ bredrNotSupported) ∷ []
 
+-- "the other two LE support"
 unfoldable pub needsLe : Hardware → List Check
 needsLe f = (not (leSupported f) ⇒ leNotSupported) ∷ []
 
@@ -200,5 +211,6 @@ tableRules = uuidRule ∷ linkKeyRule ∷ longTermKeyRule ∷ identityKeyRule �
 
 -- Named on an `unfolding` line, this opens every definition of the module: for examples that are computed.
 unfoldable pub open-tables : Unit {0}
-unfolding entries any every holds distinct freed replaced added full stored loaded chop begins empty recordOk recordsOk supportOk needsNothing needsBredr needsLe uuidRule linkKeyRule leAddressChecks longTermKeyRule identityKeyRule blockedRule deviceRule tableRules
+unfolding entries any every holds distinct freed replaced added full stored loaded chop begins empty recordOk recordsOk supportOk needsNothing needsBredr needsLe uuidRule
+    linkKeyRule leAddressChecks longTermKeyRule identityKeyRule blockedRule deviceRule tableRules
 open-tables = tt

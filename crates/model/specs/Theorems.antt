@@ -1,11 +1,10 @@
 -- The theorems, over the octets of the lent state, each by name. The proofs are in Proof/.
-use Prim.Native.Nat.{ℕ, zero, suc, _+_, _≤_, _<_}
-use native.Mathlib.Omega.{arith}
+use Prim.Native.Nat.{ℕ, _≤_}
 use mathlib.Core.Path.{_≡_, refl, sym, ap, _∙_}
-use mathlib.Core.Bool.{Bool, true, false, _&&_}
-use mathlib.Core.List.{List, [], _∷_}
+use mathlib.Core.Bool.{true, false}
+use mathlib.Core.List.{[]}
 use mathlib.Core.Logic.{_↔_}
-use mathlib.Core.Option.{Option, none, some}
+use mathlib.Core.Option.{some}
 use lib.ListN.{length}
 use lib.Dec.{eqb, leb, ltb, lit≤}
 use Rattle.model.specs.Octets.{Octets, bytes, open-octets}
@@ -38,10 +37,11 @@ demand-3 = demand3
 pub state-is-encoding : (s : Octets) → (stateOk s ≡ true) ↔ ((h : Hub) × (wellFormed h ≡ true) × (s ≡ encode h))
 state-is-encoding = state-exact
 
--- decode and encode are inverse on well-formed states.
+-- decode and encode are inverse on well-formed states: reading back what was laid out gives the hub.
 pub decode-of-encode : (h : Hub) → wellFormed h ≡ true → decode (encode h) ≡ h
 decode-of-encode = decode-encode
 
+-- Laying out what was read gives the octets.
 pub encode-of-decode : (s : Octets) → stateOk s ≡ true → encode (decode s) ≡ s
 encode-of-decode s e = sym (state-back s e)
 
@@ -53,20 +53,22 @@ calls-keep = keeps-state
 pub load-makes : (buffer image : Octets) → bytes image ≡ true → hubLoad buffer image .answer ≡ 0 → stateOk (hubLoad buffer image .state) ≡ true
 load-makes = load-state
 
--- A call answered 2 to 7 changes nothing, and so does a load.
+-- A call answered 2 to 7 changes nothing.
 pub refused-changes-nothing : (s : Octets) (c : Call) → leb 2 (meaning s c .answer) ≡ true → meaning s c .state ≡ s
 refused-changes-nothing = refused-same
 
+-- A load answered 5 or 7 changes nothing.
 pub refused-load-changes-nothing : (buffer image : Octets) → leb 2 (hubLoad buffer image .answer) ≡ true → hubLoad buffer image .state ≡ buffer
 refused-load-changes-nothing = load-refused-same
 
 -- The image -----------------------------------------------------------------------------------------------------------------------------------
 
--- save, with room for the largest image: of a hub, and on the state of a well-formed hub
+-- save of a hub, with room for the largest image
 save-call : (h : Hub) (room : ℕ) → ltb room 16014 ≡ false → call h (save room) ≡ record { answer = 0; octets = image (h .plain); state = h }
 unfolding call keep callPlain within answerOf octetsOf stateOf
 save-call h room r = rw (r, within)
 
+-- save on the state of a well-formed hub, with that room
 save-is : (h : Hub) (room : ℕ) → wellFormed h ≡ true → ltb room 16014 ≡ false → hubSave (encode h) room ≡ record { answer = 0; octets = image (h .plain); state = encode h }
 unfolding hubSave laidOut
 save-is h room e r = meaning-is h (save room) e ∙ ap laidOut (save-call h room r)
@@ -94,6 +96,7 @@ saved-image-loads s buffer room e r n =
     let i : hubSave s room .octets ≡ image (decode s .plain) = ap (λ (x : Octets). hubSave x room .octets) (state-back s e) ∙ ap (λ (x : Result Octets). x .octets) (save-is (decode s) room w r) in
     rw i (load-is buffer (image (decode s .plain)) (reloadedHub (decode s .plain)) n (load-image (decode s .plain) (and-true (plainOk (decode s .plain)) _ w .0)))
 
+-- save of a well-formed hub writes at most 16,014 octets
 save-length : (h : Hub) (room : ℕ) → wellFormed h ≡ true → length (call h (save room) .octets) ≤ 16014
 unfolding call keep callPlain within octetsOf wellFormed
 save-length h room e =
@@ -105,10 +108,12 @@ unfolding hubSave meaning laidOut badState
 no-image-longer s room =
     either {A = Result Octets} (λ r. length (r .octets) ≤ 16014) (stateOk s) (λ e. save-length (decode s) room (state-well s e)) (λ _. lit≤ tt)
 
+-- the hub with all tables full is well formed
 full-valid : plainOk fullHub ≡ true
 unfolding open-octets open-state open-reasons open-tables open-image open-wellformed dualHardware records fullTable fullController fullHub
 full-valid = refl
 
+-- its image has 16,014 octets
 full-length : length (image fullHub) ≡ 16014
 unfolding open-octets open-state open-reasons open-tables open-image dualHardware records fullTable fullController fullHub
 full-length = refl

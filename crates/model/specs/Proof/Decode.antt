@@ -1,51 +1,41 @@
 -- Reading the lent state back: `decode` undoes `encode` on every well-formed hub. So one state has one meaning, and answer 5 has a computed test.
-use Prim.Native.Nat.{ℕ, zero, suc, _+_, _-_, _*_, _/_, _%_, _^_, _<_, _≤_}
+use Prim.Native.Nat.{ℕ, _+_, _-_, _*_, _/_, _%_, _^_, _<_, _≤_}
 use native.Mathlib.Omega.{arith}
-use native.Mathlib.Nat.{mul-suc, mul-zero, div-div-eq-div-mul, div-add-mod'}
+use native.Mathlib.Nat.{div-div-eq-div-mul, div-add-mod'}
 use mathlib.Core.Path.{_≡_, refl, sym, ap, _∙_}
-use mathlib.Core.Bool.{Bool, true, false, _&&_, _||_, not}
+use mathlib.Core.Bool.{Bool, true, false, _&&_, not}
 use mathlib.Core.List.{List, [], _∷_, _++_, map, append-assoc, append-nil}
 use mathlib.Core.Option.{Option, none, some}
 use lib.ListN.{length, getD, take, drop, replicate, length-append, length-replicate}
 use lib.Seq.{take-at, drop-at, take-append-le, take-take, length-take-le}
-use lib.Dec.{eqb, leb, ltb, lit<, lit≤, ltb→lt, T}
+use lib.Dec.{eqb, ltb, lit≤, ltb→lt}
 use Rattle.model.specs.Octets.{Octets, le16, le32, u16, u32}
-use Rattle.model.specs.State.{Controller, Hardware, Hub, OpenCommand, RadioSettings, Table, flag, hardwareOk, settingsOf}
+use Rattle.model.specs.State.{Controller, Hardware, Hub, OpenCommand, RadioSettings, Table, flag, settingsOf}
 use Rattle.model.specs.Reasons.{passes}
 use Rattle.model.specs.Tables.{TableRule, chop, entries, every, recordOk, tableRules}
-use Rattle.model.specs.Rules.{Rule, general, immediate, radio, setConnectable, setDiscoverable, setLowEnergy, setPowered, setStaticAddress}
-use Rattle.model.specs.Commands.{Row, find, rows, rule}
-use Rattle.model.specs.Image.{radioOk}
-use Rattle.model.specs.Hub.{clock, starts, startsBy}
+use Rattle.model.specs.Rules.{RadioRule, Rule, general, immediate, radio, setConnectable, setDiscoverable, setLowEnergy, setPowered, setStaticAddress}
+use Rattle.model.specs.Commands.{rows, rule}
+use Rattle.model.specs.Hub.{starts, startsBy}
 use Rattle.model.specs.WellFormed.{controllerOk, openOk, opensOk, plainOk, slotOk, slotsOk, tableOk, tablesOk, wellFormed}
-use Rattle.model.specs.Layout.{block, blockLength, blocks, controllerBack, controllerIn, controllerPart, controllersIn, decode, encode, hardwarePart, occupancy, openBack, openIn, openPart, openWith, opensIn, region, regions, settingsPart, sizeOf, slotOctets, slots, slotsBack, tableBack, tablesBack}
-use Rattle.model.specs.Proof.Commute.{waits}
+use Rattle.model.specs.Layout.{block, blockLength, blocks, controllerBack, controllerIn, controllerPart, controllersIn, decode, encode, hardwarePart, occupancy}
+use Rattle.model.specs.Layout.{openBack, openIn, openPart, openWith, opensIn, region, regions, settingsPart, sizeOf, slotOctets, slots, slotsBack, tableBack}
+use Rattle.model.specs.Layout.{tablesBack}
 use Rattle.model.specs.Proof.Layout.{length-block, length-open, length-slots}
 use Rattle.model.specs.Proof.Region.{occupancy-lt}
-use Rattle.model.specs.Proof.Rows.{controller-fit, widths-fit}
+use Rattle.model.specs.Proof.Rows.{controller-fit, lengths, widths-fit}
 use Rattle.model.specs.Proof.Stays.{plain-fit}
 use Rattle.model.specs.Proof.Tables.{table-fit}
-use Rattle.model.specs.Proof.Tests.{and-true, equal, no-way}
-
-data Six : Octets → Type 0 where
-  six : (a b c d e f : ℕ) → Six (a ∷ b ∷ c ∷ d ∷ e ∷ f ∷ [])
-
-six-of : (l : Octets) → length l ≡ 6 → Six l
-six-of [] n = absurd (omega arith)
-six-of (a ∷ []) n = absurd (omega arith)
-six-of (a ∷ b ∷ []) n = absurd (omega arith)
-six-of (a ∷ b ∷ c ∷ []) n = absurd (omega arith)
-six-of (a ∷ b ∷ c ∷ d ∷ []) n = absurd (omega arith)
-six-of (a ∷ b ∷ c ∷ d ∷ e ∷ []) n = absurd (omega arith)
-six-of (a ∷ b ∷ c ∷ d ∷ e ∷ f ∷ []) n = six a b c d e f
-six-of (a ∷ b ∷ c ∷ d ∷ e ∷ f ∷ g ∷ l) n = absurd (omega arith)
+use Rattle.model.specs.Proof.EveryRow.{Each, _&_, end, found}
+use Rattle.model.specs.Proof.Tests.{Six, and-true, equal, no-way, not-true, six, six-of}
 
 -- 1. Numbers ------------------------------------------------------------------------------------------------------------------------------------
 
+-- two octets of a number give it back
 u16-back : (n : ℕ) (x : Octets) → n < 65536 → u16 (le16 n ++ x) 0 ≡ n
 unfolding u16 le16
 u16-back n x h = omega arith
 
+-- four octets of a number give it back
 u32-back : (n : ℕ) (x : Octets) → n < 2 ^ 32 → u32 (le32 n ++ x) 0 ≡ n
 unfolding u32 u16 le32
 u32-back n x h =
@@ -59,6 +49,7 @@ u32-back n x h =
 
 -- 2. Tables ---------------------------------------------------------------------------------------------------------------------------------------
 
+-- the word and the slots' octets give the table back
 slots-back : (size : ℕ) (t : Table) → slotsBack (occupancy t) (map (slotOctets size) t) ≡ t
 unfolding slotsBack occupancy slotOctets
 slots-back size [] = refl
@@ -71,6 +62,7 @@ slots-back size (some r ∷ t) =
     let b : (occupancy t * 2 + 1) / 2 ≡ occupancy t = omega arith in
     rw (a, b, slots-back size t)
 
+-- the slots' octets are cut where they were joined
 chop-slots : (size : ℕ) (g : Octets → Bool) (t : Table) (x : Octets) → every (λ r. eqb (length r) size && g r) (entries t) ≡ true → chop size (length t) (slots size t ++ x) ≡ map (slotOctets size) t
 unfolding slots slotOctets entries every chop
 chop-slots size g [] x e = refl
@@ -82,6 +74,7 @@ chop-slots size g (some r ∷ t) x e =
     let n : length r ≡ size = equal _ _ (and-true (eqb (length r) size) _ (a .0) .0) in
     rw (append-assoc, take-at r (slots size t ++ x) size n, drop-at r (slots size t ++ x) size n) (ap {B = List Octets} (λ l. r ∷ l) (chop-slots size g t x (a .1)))
 
+-- a table is read back, whatever follows it
 pub table-back : (u : TableRule) (f : Hardware) (t : Table) (x : Octets) → tableOk u f t ≡ true → tableBack (u .size) (region (u .size) t ++ x) ≡ t
 unfolding tableBack region le32 recordOk
 table-back u f t x e =
@@ -91,6 +84,7 @@ table-back u f t x e =
     let n : u32 (le32 (occupancy t) ++ (slots (u .size) t ++ x)) 0 ≡ occupancy t = u32-back (occupancy t) (slots (u .size) t ++ x) w in
     rw (n, c) (slots-back (u .size) t)
 
+-- a table takes 4 octets and 32 records
 pub length-region : (u : TableRule) (f : Hardware) (t : Table) → tableOk u f t ≡ true → length (region (u .size) t) ≡ 4 + u .size * 32
 unfolding region le32 recordOk
 length-region u f t e =
@@ -98,6 +92,7 @@ length-region u f t e =
     let n : length (slots (u .size) t) ≡ u .size * 32 = length-slots (u .size) (λ r. passes (u .checks r)) t (h .each) ∙ rw (h .slots) in
     omega arith
 
+-- all tables are read back, whatever follows them
 tables-back : (f : Hardware) (us : List TableRule) (ts : List Table) (x : Octets) → tablesOk f us ts ≡ true → tablesBack us (regions us ts ++ x) ≡ ts
 unfolding tablesBack tablesOk regions
 tables-back f [] [] x e = refl
@@ -111,21 +106,25 @@ tables-back f (u ∷ us) (t ∷ ts) x e =
 
 -- 3. A controller -----------------------------------------------------------------------------------------------------------------------------------
 
+-- a flag's octet gives it back
 flag-back : (b : Bool) → eqb (flag b 1) 1 ≡ b
 unfolding flag
 flag-back true = refl
 flag-back false = refl
 
 module _ (v m s t : ℕ) (pw k l d b : Bool) (name : Octets) (ts : List Table) (x : Octets) where
+  -- the controller of these parts
   controllerBy : Octets → Octets → Controller
   controllerBy pa st = record {
     radio = record { hardware = record { publicAddress = pa; version = v; manufacturer = m; supported = s }; powered = pw; connectable = k; lowEnergy = l; staticAddress = st };
     host = record { settings = record { timer = record { discoverable = d; seconds = t }; bondable = b }; name = name; tables = ts };
   }
 
+  -- the octets of these parts, and what follows
   partBy : Octets → Octets → Octets
   partBy pa st = hardwarePart (controllerBy pa st .radio .hardware) ++ (settingsPart (settingsOf (controllerBy pa st)) ++ (name ++ (regions tableRules ts ++ x)))
 
+  -- a controller by its parts is read back
   by-parts : (pa st : Octets) → Six pa → Six st → m < 65536 → s < 2 ^ 32 → t < 65536 → length name ≡ 260 → tablesOk (controllerBy pa st .radio .hardware) tableRules ts ≡ true
       → controllerBack (partBy pa st) ≡ controllerBy pa st
   unfolding controllerBy partBy controllerBack hardwarePart settingsPart settingsOf le16 le32 u16 u32
@@ -148,25 +147,26 @@ module _ (v m s t : ℕ) (pw k l d b : Bool) (name : Octets) (ts : List Table) (
         tables-back (controllerBy (a1 ∷ a2 ∷ a3 ∷ a4 ∷ a5 ∷ a6 ∷ []) (b1 ∷ b2 ∷ b3 ∷ b4 ∷ b5 ∷ b6 ∷ []) .radio .hardware) tableRules ts x to,
       )
 
-part-is : (c : Controller) (x : Octets) → controllerPart c ++ x ≡ partBy (c .radio .hardware .version) (c .radio .hardware .manufacturer) (c .radio .hardware .supported) (c .host .settings .timer .seconds)
-    (c .radio .powered) (c .radio .connectable) (c .radio .lowEnergy) (c .host .settings .timer .discoverable) (c .host .settings .bondable) (c .host .name) (c .host .tables) x (c .radio .hardware .publicAddress) (c .radio .staticAddress)
+-- the octets of a controller are those of its parts
+part-is : (c : Controller) (x : Octets)
+    → controllerPart c ++ x ≡ partBy (c .radio .hardware .version) (c .radio .hardware .manufacturer) (c .radio .hardware .supported) (c .host .settings .timer .seconds)
+    (c .radio .powered) (c .radio .connectable) (c .radio .lowEnergy) (c .host .settings .timer .discoverable) (c .host .settings .bondable)
+    (c .host .name) (c .host .tables) x (c .radio .hardware .publicAddress) (c .radio .staticAddress)
 unfolding controllerPart partBy controllerBy
 part-is c x = simp append-assoc
 
+-- a controller is read back, whatever follows it
 controller-back : (c : Controller) (x : Octets) → controllerOk c ≡ true → controllerBack (controllerPart c ++ x) ≡ c
-unfolding controllerBy radioOk hardwareOk
+unfolding controllerBy
 controller-back c x e =
     let h = controller-fit c e in
     let w = widths-fit c e in
-    let f1 = and-true (eqb (length (c .radio .hardware .publicAddress)) 6) _ (and-true (hardwareOk (c .radio .hardware)) _ (h .radio) .0) in
-    let f2 = and-true (ltb (c .radio .hardware .supported) 65536) _ (f1 .1) in
-    let sm : c .radio .hardware .supported < 65536 = ltb→lt _ _ (rw (f2 .0) tt) in
-    let n : length (c .host .name) ≡ 260 = equal _ _ (and-true (eqb (length (c .host .name)) 260) _ (h .name) .0) in
+    let n = lengths c e in
     rw (part-is c x)
     (by-parts (c .radio .hardware .version) (c .radio .hardware .manufacturer) (c .radio .hardware .supported) (c .host .settings .timer .seconds)
-    (c .radio .powered) (c .radio .connectable) (c .radio .lowEnergy) (c .host .settings .timer .discoverable) (c .host .settings .bondable) (c .host .name) (c .host .tables) x
-    (c .radio .hardware .publicAddress) (c .radio .staticAddress) (six-of _ (equal _ _ (f1 .0))) (six-of _ (equal _ _ (h .staticAddress)))
-    (ltb→lt _ _ (rw (w .manufacturer) tt)) (omega arith) (ltb→lt _ _ (rw (w .seconds) tt)) n (h .tables))
+    (c .radio .powered) (c .radio .connectable) (c .radio .lowEnergy) (c .host .settings .timer .discoverable) (c .host .settings .bondable)
+    (c .host .name) (c .host .tables) x (c .radio .hardware .publicAddress) (c .radio .staticAddress) (six-of _ (n .publicAddress)) (six-of _ (n .staticAddress))
+    (ltb→lt _ _ (rw (w .manufacturer) tt)) (omega (arith, n .supported)) (ltb→lt _ _ (rw (w .seconds) tt)) (n .name) (h .tables))
 
 -- 4. The open command -----------------------------------------------------------------------------------------------------------------------------------
 
@@ -176,89 +176,54 @@ Small (general f) = Unit {0}
 Small (immediate q) = Unit {0}
 Small (radio r) = (x : RadioSettings) (ps : Octets) → r .waits x ps ≡ true → r .size ≤ 3
 
+-- a row with such a code and such a rule
 record SmallRow (code : ℕ) (u : Rule) : Type 0 where
   some : eqb code 0 ≡ false
   two : code < 65536
   rule : Small u
 
-AllSmall : List Row → Type 0
-AllSmall [] = Unit {0}
-AllSmall (r ∷ rs) = SmallRow (r .0) (r .1) × AllSmall rs
+-- a row by its code and its rule
+row : {code : ℕ} {u : Rule} → not (eqb code 0) && ltb code 65536 ≡ true → Small u → SmallRow code u
+row {code} {u} e h = let a = and-true (not (eqb code 0)) _ e in record { some = not-true _ (a .0); two = ltb→lt _ _ (rw (a .1) tt); rule = h }
 
-all-small : AllSmall rows
-unfolding AllSmall rows Small setPowered setDiscoverable setConnectable setLowEnergy setStaticAddress
-all-small = (
-  record { some = refl; two = lit< tt; rule = tt },
-  (
-    record { some = refl; two = lit< tt; rule = tt },
-    (
-      record { some = refl; two = lit< tt; rule = tt },
-      (
-        record { some = refl; two = lit< tt; rule = tt },
-        (
-          record { some = refl; two = lit< tt; rule = λ x ps e. lit≤ tt },
-          (
-            record { some = refl; two = lit< tt; rule = λ x ps e. lit≤ tt },
-            (
-              record { some = refl; two = lit< tt; rule = λ x ps e. lit≤ tt },
-              (
-                record { some = refl; two = lit< tt; rule = tt },
-                (
-                  record { some = refl; two = lit< tt; rule = λ x ps e. lit≤ tt },
-                  (
-                    record { some = refl; two = lit< tt; rule = tt },
-                    (
-                      record { some = refl; two = lit< tt; rule = tt },
-                      (
-                        record { some = refl; two = lit< tt; rule = tt },
-                        (
-                          record { some = refl; two = lit< tt; rule = tt },
-                          (
-                            record { some = refl; two = lit< tt; rule = tt },
-                            (
-                              record { some = refl; two = lit< tt; rule = tt },
-                              (
-                                record { some = refl; two = lit< tt; rule = tt },
-                                (
-                                  record { some = refl; two = lit< tt; rule = tt },
-                                  (
-                                    record { some = refl; two = lit< tt; rule = λ x ps e. no-way (sym e) },
-                                    (
-                                      record { some = refl; two = lit< tt; rule = tt },
-                                      (
-                                        record { some = refl; two = lit< tt; rule = tt },
-                                        (record { some = refl; two = lit< tt; rule = tt }, tt),
-                                      ),
-                                    ),
-                                  ),
-                                ),
-                              ),
-                            ),
-                          ),
-                        ),
-                      ),
-                    ),
-                  ),
-                ),
-              ),
-            ),
-          ),
-        ),
-      ),
-    ),
-  ),
-)
+-- a rule with at most three parameter octets, whether it waits or not
+at-most-three : (r : RadioRule) → r .size ≤ 3 → Small (radio r)
+unfolding Small
+at-most-three r h x ps e = h
 
-found-small : (code : ℕ) (rs : List Row) (u : Rule) → AllSmall rs → find code rs ≡ some u → SmallRow code u
-unfolding find AllSmall
-found-small code [] u a e = let z : _≡_ {A = ℕ} 0 1 = cc in absurd (omega arith)
-found-small code (r ∷ rs) u a e = go (eqb (r .0) code) refl e (found-small code rs u (a .1))
-  where
-    go : (b : Bool) → eqb (r .0) code ≡ b → _≡_ {A = Option Rule} (elim b [ true ↦ some (r .1) | false ↦ find code rs ]) (some u) → (find code rs ≡ some u → SmallRow code u) → SmallRow code u
-    go true t f more = let p : r .1 ≡ u = cc in let q : r .0 ≡ code = equal (r .0) code t in rw (p, q) at (a .0)
-    go false t f more = more f
+-- Set Static Address has six, and never waits
+static-never-waits : Small (radio setStaticAddress)
+unfolding Small setStaticAddress
+static-never-waits x ps e = no-way (sym e)
 
--- the parameters come back
+-- every row is such a one
+all-small : Each SmallRow rows
+unfolding rows Small setPowered setDiscoverable setConnectable setLowEnergy
+all-small =
+    row refl tt
+    & row refl tt
+    & row refl tt
+    & row refl tt
+    & row refl (at-most-three setPowered (lit≤ tt))
+    & row refl (at-most-three setDiscoverable (lit≤ tt))
+    & row refl (at-most-three setConnectable (lit≤ tt))
+    & row refl tt
+    & row refl (at-most-three setLowEnergy (lit≤ tt))
+    & row refl tt
+    & row refl tt
+    & row refl tt
+    & row refl tt
+    & row refl tt
+    & row refl tt
+    & row refl tt
+    & row refl tt
+    & row refl static-never-waits
+    & row refl tt
+    & row refl tt
+    & row refl tt
+    & end
+
+-- the parameters come back from their three octets
 params-back : (n : ℕ) (ps y : Octets) → length ps ≡ n → n ≤ 3 → take n (take 3 (ps ++ replicate 3 0) ++ y) ≡ ps
 params-back n ps y e le =
     let z : Octets = ps ++ replicate 3 0 in
@@ -266,12 +231,14 @@ params-back n ps y e le =
     let m : length (take 3 z) ≡ 3 = length-take-le 3 z (omega arith) in
     take-append-le n (take 3 z) y (omega arith) ∙ take-take n 3 z le ∙ take-at ps (replicate 3 0) n e
 
+-- what is known of a command that would be started: its code, and as many parameters as its rule says, at most three
 pub record Started (o : OpenCommand) : Type 0 where
   pub some : eqb (o .code) 0 ≡ false
   pub two : o .code < 65536
   pub size : length (o .params) ≡ sizeOf (rule (o .code))
   pub three : sizeOf (rule (o .code)) ≤ 3
 
+-- a command that would be started is such a one
 pub started-by : (x : RadioSettings) (o : OpenCommand) (u : Option Rule) → rule (o .code) ≡ u → startsBy x (o .params) u ≡ true → Started o
 unfolding startsBy sizeOf rule Small
 started-by x o none e s = no-way (sym s)
@@ -281,13 +248,15 @@ started-by x o (some (radio r)) e s =
     let a = and-true (eqb (length (o .params)) (r .size)) _ s in
     let b = and-true (passes (r .beforeBusy x (o .params))) _ (a .1) in
     let d = and-true (passes (r .afterBusy x (o .params))) _ (b .1) in
-    let g = found-small (o .code) rows (radio r) all-small e in
+    let g = found SmallRow (o .code) rows (radio r) all-small e in
     record { some = g .some; two = g .two; size = rw e (equal _ _ (a .0)); three = rw e (g .rule x (o .params) (d .1)) }
 
+-- an open command from its code and its parameters
 open-with : (o : OpenCommand) (ps : Octets) → eqb (o .code) 0 ≡ false → take (sizeOf (rule (o .code))) ps ≡ o .params → openWith (o .code) ps ≡ some o
 unfolding openWith
 open-with o ps e p = rw (e, openWith, p)
 
+-- an open command is read back
 open-back : (x : RadioSettings) (o : OpenCommand) (y : Octets) → starts x o ≡ true → openBack (openPart (some o) ++ y) ≡ some o
 unfolding starts openPart openBack le16
 open-back x o y s =
@@ -295,12 +264,14 @@ open-back x o y s =
     let n : u16 (le16 (o .code) ++ (take 3 (o .params ++ replicate 3 0) ++ y)) 0 ≡ o .code = u16-back (o .code) _ (g .two) in
     rw n (open-with o (take 3 (o .params ++ replicate 3 0) ++ y) (g .some) (params-back (sizeOf (rule (o .code))) (o .params) y (g .size) (g .three)))
 
+-- no open command is read back as none
 none-back : (y : Octets) → openBack (openPart none ++ y) ≡ none
 unfolding openBack openWith openPart u16
 none-back y = refl
 
--- 5. Slots and the hub ------------------------------------------------------------------------------------------------------------------------------------
+-- 5. Blocks and the hub ------------------------------------------------------------------------------------------------------------------------------------
 
+-- the controller of a block is read back
 controller-in : (s : Option Controller) (o : Option OpenCommand) → slotOk s ≡ true → controllerIn (block s o) ≡ s
 unfolding controllerIn block slotOk
 controller-in none o e = refl
@@ -309,6 +280,7 @@ controller-in (some c) o e =
     let b : controllerBack (controllerPart c) ≡ c = rw append-nil at (controller-back c [] e) in
     ap {B = Option Controller} some (ap controllerBack d ∙ b)
 
+-- the open command of a block is read back
 open-in : (s : Option Controller) (o : Option OpenCommand) → openOk s o ≡ true → openIn (block s o) ≡ o
 unfolding openIn block openOk
 open-in none none e = refl
@@ -316,6 +288,7 @@ open-in none (some o) e = no-way (sym e)
 open-in (some c) none e = none-back (controllerPart c)
 open-in (some c) (some o) e = open-back (c .radio) o (controllerPart c) (and-true (starts (c .radio) o) _ e .0)
 
+-- the controllers of all blocks are read back
 controllers-back : (ss : List (Option Controller)) (os : List (Option OpenCommand)) → slotsOk ss ≡ true → controllersIn (length ss) (blocks ss os) ≡ ss
 unfolding controllersIn blocks slotsOk
 controllers-back [] os e = refl
@@ -326,6 +299,7 @@ controllers-back (s ∷ ss) os e =
     let y = blocks ss (drop 1 os) in
     rw (take-at x y blockLength n, drop-at x y blockLength n, controller-in s (getD os 0 none) (a .0), controllers-back ss (drop 1 os) (a .1))
 
+-- the open commands of all blocks are read back
 opens-back : (ss : List (Option Controller)) (os : List (Option OpenCommand)) → slotsOk ss ≡ true → opensOk ss os ≡ true → opensIn (length ss) (blocks ss os) ≡ os
 unfolding opensIn blocks slotsOk opensOk
 opens-back [] [] e k = refl

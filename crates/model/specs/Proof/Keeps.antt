@@ -12,16 +12,17 @@ use lib.Dec.{eqb, leb, ltb}
 use borrow.Author.Tests.{lt-ltb, le-leb, eq-eqb}
 use Rattle.model.specs.Octets.{Octets, bytes, le16, u16}
 use Rattle.model.specs.State.{Controller, Hub, OpenCommand, PlainHub, controllerAt, idle}
-use Rattle.model.specs.Rules.{radio}
-use Rattle.model.specs.Immediate.{sized}
 use Rattle.model.specs.Commands.{rule}
 use Rattle.model.specs.Image.{load}
-use Rattle.model.specs.Hub.{Call, Outcome, Result, Verdict, answerOf, anyway, badArgument, badPacket, busyOr, call, callPlain, clock, codeOf, command, commandOut, finished, indexOf, keep, noRoom, openOf, packetOk, plug, refused, report, reportOut, save, starts, stateOf, underWay, unlessBusy, unplug, unplugged, verdict}
+use Rattle.model.specs.Hub.{Call, Outcome, Result, Verdict, answerOf, anyway, badArgument, badPacket, busyOr, call, callPlain, clock, codeOf, command, commandOut}
+use Rattle.model.specs.Hub.{finished, indexOf, keep, noRoom, openOf, packetOk, plug, refused, report, reportOut, save, starts, stateOf, underWay, unlessBusy}
+use Rattle.model.specs.Hub.{unplug, unplugged, verdict}
 use Rattle.model.specs.WellFormed.{callWide, openOk, opensOk, plainOk, wellFormed}
 use Rattle.model.specs.Layout.{decode, encode, stateLength}
 use Rattle.model.specs.Meanings.{badState, hubLoad, laidOut, loadMeaning, loadedInto, meaning, stateOk}
 use Rattle.model.specs.Demand3.{Pending, entry, sort}
-use Rattle.model.specs.Proof.Commute.{Fits, Inv, Ok, acts-now, rests, some-lt, step, waits}
+use Rattle.model.specs.Proof.Commute.{step}
+use Rattle.model.specs.Proof.Invariant.{Fits, Inv, Ok, acts-now, rests, some-lt, waits}
 use Rattle.model.specs.Proof.Decode.{started-by}
 use Rattle.model.specs.Proof.Demand3.{encode-ok, idle-ok, state-back, state-well}
 use Rattle.model.specs.Proof.Load.{load-ok}
@@ -70,7 +71,7 @@ bytes-packet i o w = bytes-two (o .code) _ (bytes-two i _ (bytes-two (length (o 
 
 -- 2. The invariant of demand 3 holds of every well-formed hub -------------------------------------------------------------------------------
 
--- as many open commands as slots
+-- as many open commands as indexes
 opens-length : (ss : List (Option Controller)) (os : List (Option OpenCommand)) → opensOk ss os ≡ true → length os ≡ length ss
 unfolding opensOk
 opens-length [] [] e = refl
@@ -100,7 +101,7 @@ pending-is j [] i = refl
 pending-is j (o ∷ os) zero = rw add-zero
 pending-is j (o ∷ os) (suc i) = let n : suc j + i ≡ j + suc i = omega arith in rw (← n) (pending-is (suc j) os i)
 
--- a slot that holds an open command is one of the four
+-- below four, what is found at an index is what stands in the list
 slot-four : (p : PlainHub) (i : ℕ) → i < 4 → controllerAt p i ≡ getD (p .controllers) i none
 unfolding controllerAt
 slot-four p i h = rw (lt-ltb i 4 h, controllerAt)
@@ -141,7 +142,9 @@ inv-of h e =
       four-opens = f .four;
       four-pending = length-pending 0 (h .openCommands) ∙ f .four;
       ok = λ i. rw (pending-is 0 (h .openCommands) i, zero-add i)
-          (ok-at (h .plain) i (getD (h .openCommands) i none) (λ o x. let l : i < length (h .openCommands) = some-lt (h .openCommands) i x in omega (arith, f .four)) (opens-at (h .plain .controllers) (h .openCommands) i (f .openCommands)));
+          (ok-at (h .plain) i (getD (h .openCommands) i none)
+          (λ o x. let l : i < length (h .openCommands) = some-lt (h .openCommands) i x in omega (arith, f .four))
+          (opens-at (h .plain .controllers) (h .openCommands) i (f .openCommands)));
     }
 
 -- a packet made is octets
@@ -184,23 +187,24 @@ unfolding keep
 same-keep h o e = ap {B = Hub} (λ (p : PlainHub). record { plain = p; openCommands = h .openCommands }) (same-plain (h .plain) o e)
 
 -- a settings command past the first checks
-same-contend : (h : Hub) (packet : Octets) (o : Outcome) (w : Bool) (x : Option OpenCommand) → leb 2 (busyOr h packet o w x .answer) ≡ true → busyOr h packet o w x .state ≡ h
+same-busy : (h : Hub) (packet : Octets) (o : Outcome) (w : Bool) (x : Option OpenCommand) → leb 2 (busyOr h packet o w x .answer) ≡ true → busyOr h packet o w x .state ≡ h
 unfolding busyOr
-same-contend h packet o w (some x) e = refl
-same-contend h packet o true none e = no-way (sym e)
-same-contend h packet o false none e = same-keep h o e
+same-busy h packet o w (some x) e = refl
+same-busy h packet o true none e = no-way (sym e)
+same-busy h packet o false none e = same-keep h o e
 
 -- a command
-same-decided : (h : Hub) (packet : Octets) (v : Verdict) → leb 2 (commandOut h packet v .answer) ≡ true → commandOut h packet v .state ≡ h
+same-command : (h : Hub) (packet : Octets) (v : Verdict) → leb 2 (commandOut h packet v .answer) ≡ true → commandOut h packet v .state ≡ h
 unfolding commandOut
-same-decided h packet (anyway o) e = same-keep h o e
-same-decided h packet (unlessBusy o w) e = same-contend h packet o w (underWay h (indexOf packet)) e
+same-command h packet (anyway o) e = same-keep h o e
+same-command h packet (unlessBusy o w) e = same-busy h packet o w (underWay h (indexOf packet)) e
 
 -- a report: the command that it finishes would now be started, so it answers 0
-same-reported : (h : Hub) (i s : ℕ) (t : Option Controller) (x : Option OpenCommand) (y : Option Octets) → controllerAt (h .plain) i ≡ t → Ok i t x y → leb 2 (reportOut h i s x .answer) ≡ true → reportOut h i s x .state ≡ h
+same-report : (h : Hub) (i s : ℕ) (t : Option Controller) (x : Option OpenCommand) (y : Option Octets) → controllerAt (h .plain) i ≡ t → Ok i t x y
+    → leb 2 (reportOut h i s x .answer) ≡ true → reportOut h i s x .state ≡ h
 unfolding reportOut keep
-same-reported h i s t x y et rests = same-keep h badArgument
-same-reported h i s t x y et (waits {c = c} {o = o} f st) =
+same-report h i s t x y et rests = same-keep h badArgument
+same-report h i s t x y et (waits {c = c} {o = o} f st) =
     either {A = Result Hub} (λ r. leb 2 (r .answer) ≡ true → r .state ≡ h) (ltb 0x14 s) (λ _. same-keep h badArgument)
     (λ _. either {A = Result Hub} (λ r. leb 2 (r .answer) ≡ true → r .state ≡ h) (eqb s 0) (λ _ e. never (acts-now (h .plain) i c o et st .zero) e) (λ _ e. no-way (sym e)))
   where
@@ -208,24 +212,24 @@ same-reported h i s t x y et (waits {c = c} {o = o} f st) =
     never z e = let f : leb 2 0 ≡ true = rw z at e in no-way (sym f)
 
 -- an unplug
-same-unplugged : (h : Hub) (i : ℕ) (o : Outcome) → leb 2 (unplugged h i o .answer) ≡ true → unplugged h i o .state ≡ h
+same-unplug : (h : Hub) (i : ℕ) (o : Outcome) → leb 2 (unplugged h i o .answer) ≡ true → unplugged h i o .state ≡ h
 unfolding unplugged
-same-unplugged h i (finished o p) e = no-way (sym e)
-same-unplugged h i (refused f r) e = same-keep h (refused f r) e
-same-unplugged h i badPacket e = same-keep h badPacket e
-same-unplugged h i noRoom e = same-keep h noRoom e
-same-unplugged h i badArgument e = same-keep h badArgument e
+same-unplug h i (finished o p) e = no-way (sym e)
+same-unplug h i (refused f r) e = same-keep h (refused f r) e
+same-unplug h i badPacket e = same-keep h badPacket e
+same-unplug h i noRoom e = same-keep h noRoom e
+same-unplug h i badArgument e = same-keep h badArgument e
 
 -- a call answered 2 or more leaves a well-formed hub as it was
 pub same-hub : (h : Hub) (c : Call) → wellFormed h ≡ true → leb 2 (call h c .answer) ≡ true → call h c .state ≡ h
 unfolding call underWay
-same-hub h (command room packet) w e = same-decided h packet (verdict (h .plain) room packet) e
+same-hub h (command room packet) w e = same-command h packet (verdict (h .plain) room packet) e
 same-hub h (report room i s) w e =
     either {A = Result Hub} (λ r. leb 2 (r .answer) ≡ true → r .state ≡ h) (ltb room 1024) (λ _. same-keep h noRoom)
-    (λ _. same-reported h i s (controllerAt (h .plain) i) (getD (h .openCommands) i none) (getD (pendingOf 0 (h .openCommands)) i none) refl (inv-of h w .ok i)) e
+    (λ _. same-report h i s (controllerAt (h .plain) i) (getD (h .openCommands) i none) (getD (pendingOf 0 (h .openCommands)) i none) refl (inv-of h w .ok i)) e
 same-hub h (clock room now) w e = same-keep h (callPlain (h .plain) (clock room now)) e
 same-hub h (plug room i f) w e = same-keep h (callPlain (h .plain) (plug room i f)) e
-same-hub h (unplug room i) w e = same-unplugged h i (callPlain (h .plain) (unplug room i)) e
+same-hub h (unplug room i) w e = same-unplug h i (callPlain (h .plain) (unplug room i)) e
 same-hub h (save room) w e = same-keep h (callPlain (h .plain) (save room)) e
 
 -- 4. Over the lent octets ------------------------------------------------------------------------------------------------------------------------

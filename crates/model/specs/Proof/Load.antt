@@ -1,20 +1,17 @@
 -- What load makes is well formed.
-use Prim.Native.Nat.{ℕ, zero, suc, _+_, _-_, _*_, _<_, _≤_}
+use Prim.Native.Nat.{ℕ, zero, suc, _*_, _<_, _≤_}
 use native.Mathlib.Omega.{arith}
-use mathlib.Core.Path.{_≡_, refl, sym, ap, _∙_}
-use mathlib.Core.Bool.{Bool, true, false, _&&_, _||_, not}
-use mathlib.Core.List.{List, [], _∷_, _++_, map}
+use mathlib.Core.Path.{_≡_, refl, _∙_}
+use mathlib.Core.Bool.{Bool, true, false, _&&_}
+use mathlib.Core.List.{List, [], _∷_}
 use mathlib.Core.Option.{Option, none, some}
 use lib.ListN.{length, getD, take, drop, replicate, set, length-set, length-take, length-drop}
-use lib.Dec.{eqb, leb, ltb, leb→le, T}
+use lib.Dec.{eqb, leb, ltb, leb→le}
 use Rattle.model.specs.Octets.{Octets, bit, bytes, number}
 use Rattle.model.specs.State.{Controller, Hardware, PlainHub, RadioSettings, Table, noTimer}
 use Rattle.model.specs.Tables.{TableRule, chop, loaded, recordsOk, supportOk, tableRules}
-use Rattle.model.specs.Rules.{radio}
 use Rattle.model.specs.Image.{Parsed, controllerThen, flagsOk, load, nameOk, parseController, parseControllers, parseRadio, parseTables, radioOk, tableThen}
-use Rattle.model.specs.Hub.{clock}
 use Rattle.model.specs.WellFormed.{controllerOk, plainOk, settingsFit, slotOk, slotsOk, tablesOk, timerOk}
-use Rattle.model.specs.Layout.{slots}
 use Rattle.model.specs.Proof.Rows.{fit-controller, fit-widths, length-chop}
 use Rattle.model.specs.Proof.Stays.{fit-plain, slots-set}
 use Rattle.model.specs.Proof.Tables.{byte-at, bytes-chop, bytes-drop, bytes-take, loaded-ok, lt-true}
@@ -34,7 +31,9 @@ then (some a) f b e = (a, refl, e)
 pub le-of : (m n : ℕ) → leb m n ≡ true → m ≤ n
 le-of m n e = leb→le m n (rw e tt)
 
-tables-load : (f : Hardware) (us : List TableRule) (o : Octets) (m : Parsed (List Table)) → bytes o ≡ true → parseTables f us o ≡ some m → (tablesOk f us (m .value) ≡ true) × (bytes (m .behind) ≡ true)
+-- tables that were read keep their rules, and octets are left of octets
+tables-load : (f : Hardware) (us : List TableRule) (o : Octets) (m : Parsed (List Table)) → bytes o ≡ true → parseTables f us o ≡ some m
+    → (tablesOk f us (m .value) ≡ true) × (bytes (m .behind) ≡ true)
 unfolding parseTables tableThen tablesOk bytes
 tables-load f [] o m w e = let p : record { value = []; behind = o } ≡ m = cc in rw (← p) (refl, w)
 tables-load f (u ∷ us) [] m w e = let z : _≡_ {A = ℕ} 0 1 = cc in absurd (omega arith)
@@ -68,8 +67,9 @@ controller-load o c w e =
     let tables : Option (Parsed (List Table)) = parseTables (r .hardware) tableRules (drop 283 o) in
     let g = tested (leb 283 (length o)) _ c e in
     let a = tested (radioOk r && (flagsOk flags && nameOk name)) _ c (g .1) in
-    let b = then tables (λ t. some (record { value = record { radio = r; host = record { settings = record { timer = noTimer; bondable = bit 4 flags }; name = name; tables = t .value } }; behind = t .behind })) c (a .1) in
-    let p : record { value = record { radio = r; host = record { settings = record { timer = noTimer; bondable = bit 4 flags }; name = name; tables = b .0 .value } }; behind = b .0 .behind } ≡ c = cc in
+    let made : List Table → Controller = λ ts. record { radio = r; host = record { settings = record { timer = noTimer; bondable = bit 4 flags }; name = name; tables = ts } } in
+    let b = then tables (λ t. some (record { value = made (t .value); behind = t .behind })) c (a .1) in
+    let p : record { value = made (b .0 .value); behind = b .0 .behind } ≡ c = cc in
     let c2 = and-true (radioOk r) _ (a .0) in
     let big : 283 ≤ length o = le-of 283 (length o) (g .0) in
     let six : length (take 6 (drop 17 o)) ≡ 6 = simp (length-take, length-drop) (omega arith) in
@@ -96,7 +96,9 @@ controller-load o c w e =
       t .1,
     )
 
-controllers-load : (n low : ℕ) (l : List (Option Controller)) (o : Octets) (s : List (Option Controller)) → bytes o ≡ true → length l ≡ 4 → slotsOk l ≡ true → parseControllers n low l o ≡ some s → (length s ≡ 4) × (slotsOk s ≡ true)
+-- all controllers that were read, put beside those that stood there, are well formed
+controllers-load : (n low : ℕ) (l : List (Option Controller)) (o : Octets) (s : List (Option Controller)) → bytes o ≡ true → length l ≡ 4 → slotsOk l ≡ true
+    → parseControllers n low l o ≡ some s → (length s ≡ 4) × (slotsOk s ≡ true)
 unfolding parseControllers slotOk bytes
 controllers-load zero low l [] s w n k e = let p : l ≡ s = cc in rw (← p) (n, k)
 controllers-load zero low l (x ∷ o) s w n k e = let z : _≡_ {A = ℕ} 0 1 = cc in absurd (omega arith)
@@ -107,6 +109,7 @@ controllers-load (suc m) low l (i ∷ o) s w n k e =
     let d = controller-load o (b .0) (and-true (ltb i 256) _ w .1) (b .1) in
     controllers-load m (suc i) (set l i (some (b .0 .value))) (b .0 .behind) s (d .1) (length-set l i _ ∙ n) (slots-set l i (some (b .0 .value)) k (d .0)) (b .2)
 
+-- WHAT LOAD MAKES IS WELL FORMED
 pub load-ok : (o : Octets) (p : PlainHub) → bytes o ≡ true → load o ≡ some p → plainOk p ≡ true
 unfolding load slotsOk slotOk
 load-ok o p w e =

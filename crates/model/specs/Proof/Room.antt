@@ -12,21 +12,24 @@ use Rattle.model.specs.State.{Controller, Hardware, Host, Hub, OpenComma
 use Rattle.model.specs.Reasons.{Reason, firstOf}
 use Rattle.model.specs.Tables.{entries}
 use Rattle.model.specs.Rules.{Immediate, ImmediateRule, RadioRule, Rule, done, general, immediate, newSettings, radio, refuse}
-use Rattle.model.specs.Immediate.{KeyList, addDevice, addUuid, blockDevice, classOf, identityKeyList, linkKeyList, loadKeys, longTermKeyList, newClass, readInformation, removals, removeDevice, removeUuid, setBondable, setLocalName, sized, unblockDevice, unless, unpairDevice}
-use Rattle.model.specs.Commands.{Row, commandCodes, eventCodes, find, presentFrom, readCommands, readIndexes, readVersion, rows, rule, words}
-use Rattle.model.specs.Image.{radioOk}
-use Rattle.model.specs.Hub.{Call, Outcome, Result, Verdict, acted, anyway, badArgument, badPacket, busyOr, byRule, byStatus, call, callPlain, clock, clockOut, codeOf, command, commandOut, ends, finish, finishBy, finished, generalOut, immediateAt, immediateDone, indexOf, keep, noRoom, octetsOf, outcome, owedTo, packetOk, plug, plugOut, radioAfterBusy, radioAt, radioBeforeBusy, refusalForm, refusalOctets, refused, report, reportOut, save, stepOf, tickEvents, underWay, unlessBusy, unplug, unplugOut, unplugged, verdict, within}
+use Rattle.model.specs.Immediate.{KeyList, addDevice, addUuid, blockDevice, classOf, identityKeyList, linkKeyList, loadKeys, longTermKeyList, newClass}
+use Rattle.model.specs.Immediate.{readInformation, removals, removeDevice, removeUuid, setBondable, setLocalName, sized, unblockDevice, unless, unpairDevice}
+use Rattle.model.specs.Commands.{commandCodes, eventCodes, presentFrom, readCommands, readIndexes, readVersion, rows, rule, words}
+use Rattle.model.specs.Hub.{Call, Outcome, Result, Verdict, acted, anyway, badArgument, badPacket, busyOr, byRule, byStatus, call, callPlain, clock, clockOut}
+use Rattle.model.specs.Hub.{codeOf, command, commandOut, ends, finish, finishBy, finished, generalOut, immediateAt, immediateDone, indexOf, keep, noRoom, octetsOf}
+use Rattle.model.specs.Hub.{outcome, owedTo, packetOk, plug, plugOut, radioAfterBusy, radioAt, radioBeforeBusy, refusalForm, refusalOctets, refused, report}
+use Rattle.model.specs.Hub.{reportOut, save, stepOf, tickEvents, underWay, unlessBusy, unplug, unplugOut, unplugged, verdict, within}
 use Rattle.model.specs.WellFormed.{controllerOk, plainOk, wellFormed}
-use Rattle.model.specs.Layout.{decode, slots}
+use Rattle.model.specs.Layout.{decode}
 use Rattle.model.specs.Meanings.{badState, laidOut, meaning, stateOk}
-use Rattle.model.specs.Proof.Commute.{step}
 use Rattle.model.specs.Proof.Demand3.{state-well}
 use Rattle.model.specs.Proof.Keeps.{well-fit}
 use Rattle.model.specs.Proof.RoundTrip.{length-entries}
-use Rattle.model.specs.Proof.Rows.{controller-fit, ruleAt, table-ok}
+use Rattle.model.specs.Proof.Rows.{lengths, ruleAt, table-ok}
 use Rattle.model.specs.Proof.Stays.{controller-ok, plain-fit}
 use Rattle.model.specs.Proof.Tables.{table-fit}
-use Rattle.model.specs.Proof.Tests.{and-true, either, equal, no-way}
+use Rattle.model.specs.Proof.EveryRow.{Each, _&_, end, found}
+use Rattle.model.specs.Proof.Tests.{either, equal, no-way}
 
 -- every call but save
 unfoldable pub notSave : Call → Bool
@@ -86,10 +89,10 @@ RoomRule (immediate q) = RoomImmediate q
 RoomRule (radio r) = Unit {0}
 
 -- whatever the checks say, it is enough that the answer fits
-answered-room : (x : Option Reason) (q : Immediate) → Room q → Room (unless x q)
+unless-room : (x : Option Reason) (q : Immediate) → Room q → Room (unless x q)
 unfolding unless Room
-answered-room (some r) q h = tt
-answered-room none q h = h
+unless-room (some r) q h = tt
+unless-room none q h = h
 
 -- settings and New Settings
 settings-out : (i : ℕ) (c d : Controller) (r : Host) → Room (done (le32 (currentSettings (settingsOf d))) (newSettings i c d) r)
@@ -124,63 +127,59 @@ take-seven ps = simp length-take (omega arith)
 
 -- Read Controller Information: 280 octets
 room-readInfo : RoomImmediate readInformation
-unfolding RoomImmediate readInformation Room le16 le32 classOf radioOk hardwareOk
-room-readInfo i c ps e z =
-    let h = controller-fit c e in
-    let p6 : length (c .radio .hardware .publicAddress) ≡ 6 = equal _ _ (and-true (eqb (length (c .radio .hardware .publicAddress)) 6) _ (and-true (hardwareOk (c .radio .hardware)) _ (h .radio) .0) .0) in
-    let n : length (c .host .name) ≡ 260 = equal _ _ (and-true (eqb (length (c .host .name)) 260) _ (h .name) .0) in
-    simp length-append (omega arith)
+unfolding RoomImmediate readInformation Room le16 le32 classOf
+room-readInfo i c ps e z = let n = lengths c e in simp length-append (omega (arith, n .publicAddress, n .name))
 
 -- Set Bondable
 room-bondable : RoomImmediate setBondable
 unfolding RoomImmediate setBondable
-room-bondable i c ps e z = answered-room _ _ (settings-out i c _ _)
+room-bondable i c ps e z = unless-room _ _ (settings-out i c _ _)
 
 -- Set Local Name
 room-name : RoomImmediate setLocalName
 unfolding RoomImmediate setLocalName sized
-room-name i c ps e z = answered-room _ _ (name-out i ps (same ps (c .host .name)) _ (equal _ _ z))
+room-name i c ps e z = unless-room _ _ (name-out i ps (same ps (c .host .name)) _ (equal _ _ z))
 
 -- Add UUID
 room-addUuid : RoomImmediate addUuid
 unfolding RoomImmediate addUuid
-room-addUuid i c ps e z = answered-room _ _ (class-out i _ _)
+room-addUuid i c ps e z = unless-room _ _ (class-out i _ _)
 
 -- Remove UUID
 room-removeUuid : RoomImmediate removeUuid
 unfolding RoomImmediate removeUuid
-room-removeUuid i c ps e z = answered-room _ _ (class-out i _ _)
+room-removeUuid i c ps e z = unless-room _ _ (class-out i _ _)
 
 -- the three key lists
 room-load : (l : KeyList) → RoomImmediate (loadKeys l)
 unfolding RoomImmediate loadKeys Room
-room-load l i c ps e z = answered-room _ _ (lit≤ tt)
+room-load l i c ps e z = unless-room _ _ (lit≤ tt)
 
 -- Unpair
 room-unpair : RoomImmediate unpairDevice
 unfolding RoomImmediate unpairDevice
-room-unpair i c ps e z = answered-room _ _ (event-out 0x0016 i _ _ _ (take-seven ps) (take-seven ps))
+room-unpair i c ps e z = unless-room _ _ (event-out 0x0016 i _ _ _ (take-seven ps) (take-seven ps))
 
 -- Block
 room-block : RoomImmediate blockDevice
 unfolding RoomImmediate blockDevice sized
-room-block i c ps e z = let n : length ps ≡ 7 = equal _ _ z in answered-room _ _ (event-out 0x0014 i _ _ _ (omega arith) (omega arith))
+room-block i c ps e z = let n : length ps ≡ 7 = equal _ _ z in unless-room _ _ (event-out 0x0014 i _ _ _ (omega arith) (omega arith))
 
 -- Unblock
 room-unblock : RoomImmediate unblockDevice
 unfolding RoomImmediate unblockDevice sized
-room-unblock i c ps e z = let n : length ps ≡ 7 = equal _ _ z in answered-room _ _ (event-out 0x0015 i _ _ _ (omega arith) (omega arith))
+room-unblock i c ps e z = let n : length ps ≡ 7 = equal _ _ z in unless-room _ _ (event-out 0x0015 i _ _ _ (omega arith) (omega arith))
 
 -- Add Device
 room-addDevice : RoomImmediate addDevice
 unfolding RoomImmediate addDevice sized
-room-addDevice i c ps e z = let n : length ps ≡ 8 = equal _ _ z in answered-room _ _ (event-out 0x001A i _ _ _ (take-seven ps) (omega arith))
+room-addDevice i c ps e z = let n : length ps ≡ 8 = equal _ _ z in unless-room _ _ (event-out 0x001A i _ _ _ (take-seven ps) (omega arith))
 
 -- Remove Device
 room-removeDevice : RoomImmediate removeDevice
 unfolding RoomImmediate removeDevice sized
 room-removeDevice i c ps e z =
-    answered-room _ _ (removed-out i _ _ _ _ (equal _ _ z) (table-fit (ruleAt 5) (c .radio .hardware) (tableOf (c .host) 5) (table-ok c 5 e (lit< tt)) .slots))
+    unless-room _ _ (removed-out i _ _ _ _ (equal _ _ z) (table-fit (ruleAt 5) (c .radio .hardware) (tableOf (c .host) 5) (table-ok c 5 e (lit< tt)) .slots))
 
 -- numbers of two octets
 length-words : (ns : List ℕ) → length (words ns) ≡ 2 * length ns
@@ -188,7 +187,7 @@ unfolding words le16
 length-words [] = refl
 length-words (n ∷ ns) = omega (arith, length-words ns)
 
--- no more present indexes than slots
+-- no more indexes are present than there are
 length-present : (i : ℕ) (s : List (Option Controller)) → length (presentFrom i s) ≤ length s
 unfolding presentFrom
 length-present i [] = lit≤ tt
@@ -212,30 +211,37 @@ room-indexes p n = omega (arith, length-words (presentFrom 0 (p .controllers)), 
 
 -- 4. All rows -------------------------------------------------------------------------------------------------------------------------------------
 
--- every row of a list
-AllRoom : List Row → Type 0
-AllRoom [] = Unit {0}
-AllRoom (r ∷ rs) = RoomRule (r .1) × AllRoom rs
-
 -- every row of the table
-all-room : AllRoom rows
-unfolding AllRoom rows RoomRule
-all-room = (room-version, (room-commands, (room-indexes, (room-readInfo, (tt, (tt, (tt, (room-bondable, (tt, (room-name, (room-addUuid, (room-removeUuid, (room-load linkKeyList, (room-load longTermKeyList, (room-unpair, (room-block, (room-unblock, (tt, (room-load identityKeyList, (room-addDevice, (room-removeDevice, tt)))))))))))))))))))))
-
--- a row that is found
-found-room : (code : ℕ) (rs : List Row) (u : Rule) → AllRoom rs → find code rs ≡ some u → RoomRule u
-unfolding find AllRoom
-found-room code [] u a e = let z : _≡_ {A = ℕ} 0 1 = cc in absurd (omega arith)
-found-room code (r ∷ rs) u a e = go (eqb (r .0) code) e (found-room code rs u (a .1))
-  where
-    go : (b : Bool) → _≡_ {A = Option Rule} (elim b [ true ↦ some (r .1) | false ↦ find code rs ]) (some u) → (find code rs ≡ some u → RoomRule u) → RoomRule u
-    go true f more = let p : r .1 ≡ u = cc in rw p at (a .0)
-    go false f more = more f
+all-room : Each (λ code u. RoomRule u) rows
+unfolding rows RoomRule
+all-room =
+    room-version
+    & room-commands
+    & room-indexes
+    & room-readInfo
+    & tt
+    & tt
+    & tt
+    & room-bondable
+    & tt
+    & room-name
+    & room-addUuid
+    & room-removeUuid
+    & room-load linkKeyList
+    & room-load longTermKeyList
+    & room-unpair
+    & room-block
+    & room-unblock
+    & tt
+    & room-load identityKeyList
+    & room-addDevice
+    & room-removeDevice
+    & end
 
 -- every rule that a code finds
 pub rule-room : (code : ℕ) (u : Rule) → rule code ≡ some u → RoomRule u
 unfolding rule
-rule-room code u e = found-room code rows u all-room e
+rule-room code u e = found (λ code u. RoomRule u) code rows u all-room e
 
 -- 5. Outcomes -------------------------------------------------------------------------------------------------------------------------------------
 
@@ -244,20 +250,20 @@ abbrev Writes : ℕ → Outcome → Type 0
 Writes n o = length (octetsOf o) ≤ n
 
 -- a refusal by Command Status
-form-room : (i code : ℕ) (r : Reason) → Writes 1024 (refused (byStatus i code) r)
+status-refusal-room : (i code : ℕ) (r : Reason) → Writes 1024 (refused (byStatus i code) r)
 unfolding octetsOf byStatus refusalOctets commandStatus event le16
-form-room i code r = lit≤ tt
+status-refusal-room i code r = lit≤ tt
 
 -- a refusal with an address
 refusal-room : (a : Bool) (i code : ℕ) (ps : Octets) (r : Reason) → Writes 1024 (refused (refusalForm a i code ps) r)
 unfolding octetsOf refusalForm refusalOctets
-refusal-room false i code ps r = form-room i code r
+refusal-room false i code ps r = status-refusal-room i code r
 refusal-room true i code ps r = simp (length-complete, length-take) (omega arith)
 
 -- a settings command that acts: reply 13, New Settings 10
-effect-room : (p : PlainHub) (i code : ℕ) (ps : Octets) (r : RadioRule) (c : Controller) → Writes 1024 (acted p i code ps r c)
+acted-room : (p : PlainHub) (i code : ℕ) (ps : Octets) (r : RadioRule) (c : Controller) → Writes 1024 (acted p i code ps r c)
 unfolding octetsOf acted le32
-effect-room p i code ps r c = simp (length-append, length-complete) (omega (arith, room-settings i c (r .effect c ps)))
+acted-room p i code ps r c = simp (length-append, length-complete) (omega (arith, room-settings i c (r .effect c ps)))
 
 -- a command that is never Busy
 done-room : (p : PlainHub) (i code : ℕ) (ps : Octets) (a : Bool) (c : Controller) (q : Immediate) → Room q → Writes 1024 (immediateDone p i code ps a c q)
@@ -270,29 +276,29 @@ general-room : (p : PlainHub) (i code : ℕ) (ps : Octets) (f : PlainHub → Oct
 unfolding octetsOf generalOut
 general-room p i code ps f h =
     either (Writes 1024) (eqb i 0xFFFF)
-    (λ _. either (Writes 1024) (eqb (length ps) 0) (λ _. simp length-complete (omega arith)) (λ _. form-room i code _))
-    (λ _. form-room i code _)
+    (λ _. either (Writes 1024) (eqb (length ps) 0) (λ _. simp length-complete (omega arith)) (λ _. status-refusal-room i code _))
+    (λ _. status-refusal-room i code _)
 
 -- a settings command, from the checks after Busy on
-late-room : (p : PlainHub) (i code : ℕ) (ps : Octets) (r : RadioRule) (c : Controller) (x : Option Reason) → Writes 1024 (outcome (radioAfterBusy p i code ps r c x))
+after-busy-room : (p : PlainHub) (i code : ℕ) (ps : Octets) (r : RadioRule) (c : Controller) (x : Option Reason) → Writes 1024 (outcome (radioAfterBusy p i code ps r c x))
 unfolding outcome radioAfterBusy
-late-room p i code ps r c (some x) = form-room i code x
-late-room p i code ps r c none = effect-room p i code ps r c
+after-busy-room p i code ps r c (some x) = status-refusal-room i code x
+after-busy-room p i code ps r c none = acted-room p i code ps r c
 
 -- a settings command, from the checks before Busy on
-early-room : (p : PlainHub) (i code : ℕ) (ps : Octets) (r : RadioRule) (c : Controller) (x : Option Reason) → Writes 1024 (outcome (radioBeforeBusy p i code ps r c x))
+before-busy-room : (p : PlainHub) (i code : ℕ) (ps : Octets) (r : RadioRule) (c : Controller) (x : Option Reason) → Writes 1024 (outcome (radioBeforeBusy p i code ps r c x))
 unfolding outcome radioBeforeBusy
-early-room p i code ps r c (some x) = form-room i code x
-early-room p i code ps r c none = late-room p i code ps r c (firstOf (r .afterBusy (c .radio) ps))
+before-busy-room p i code ps r c (some x) = status-refusal-room i code x
+before-busy-room p i code ps r c none = after-busy-room p i code ps r c (firstOf (r .afterBusy (c .radio) ps))
 
 -- a settings command, with its controller
 radio-room : (p : PlainHub) (i code : ℕ) (ps : Octets) (r : RadioRule) (s : Option Controller) → Writes 1024 (outcome (radioAt p i code ps r s))
 unfolding outcome radioAt
-radio-room p i code ps r none = form-room i code _
+radio-room p i code ps r none = status-refusal-room i code _
 radio-room p i code ps r (some c) =
-    either (λ v. Writes 1024 (outcome v)) (eqb (length ps) (r .size)) (λ _. early-room p i code ps r c (firstOf (r .beforeBusy (c .radio) ps))) (λ _. form-room i code _)
+    either (λ v. Writes 1024 (outcome v)) (eqb (length ps) (r .size)) (λ _. before-busy-room p i code ps r c (firstOf (r .beforeBusy (c .radio) ps))) (λ _. status-refusal-room i code _)
 
--- New Settings at a clock reading: ten for each slot
+-- New Settings at a clock reading: ten for each index
 room-ticks : (step i : ℕ) (s : List (Option Controller)) → length (tickEvents step i s) ≤ 10 * length s
 unfolding tickEvents le32
 room-ticks step i [] = lit≤ tt
@@ -323,11 +329,13 @@ module _ (p : PlainHub) (e : plainOk p ≡ true) where
   -- a command, by its rule
   by-room : (i code : ℕ) (ps : Octets) (u : Option Rule) → rule code ≡ u → (s : Option Controller) → controllerAt p i ≡ s → Writes 1024 (outcome (byRule p i code ps u))
   unfolding outcome byRule immediateAt RoomRule RoomImmediate
-  by-room i code ps none eu s es = form-room i code _
+  by-room i code ps none eu s es = status-refusal-room i code _
   by-room i code ps (some (general f)) eu s es = general-room p i code ps f (rule-room code (general f) eu p (equal _ _ (plain-fit p e .four)))
-  by-room i code ps (some (immediate q)) eu none es = rw es (form-room i code _)
+  by-room i code ps (some (immediate q)) eu none es = rw es (status-refusal-room i code _)
   by-room i code ps (some (immediate q)) eu (some c) es =
-      rw es (either (Writes 1024) (q .size ps) (λ z. done-room p i code ps (q .byAddress) c (q .act i c ps) (rule-room code (immediate q) eu i c ps (controller-ok p i c e es) z)) (λ _. form-room i code _))
+      rw es (either (Writes 1024) (q .size ps)
+      (λ z. done-room p i code ps (q .byAddress) c (q .act i c ps) (rule-room code (immediate q) eu i c ps (controller-ok p i c e es) z))
+      (λ _. status-refusal-room i code _))
   by-room i code ps (some (radio r)) eu s es = radio-room p i code ps r (controllerAt p i)
 
   -- a command
@@ -335,7 +343,9 @@ module _ (p : PlainHub) (e : plainOk p ≡ true) where
   unfolding outcome verdict octetsOf
   command-room room packet =
       either (λ v. Writes 1024 (outcome v)) (ltb room 1024) (λ _. lit≤ tt)
-      (λ _. either (λ v. Writes 1024 (outcome v)) (packetOk packet) (λ _. by-room (indexOf packet) (codeOf packet) (drop 6 packet) (rule (codeOf packet)) refl (controllerAt p (indexOf packet)) refl) (λ _. lit≤ tt))
+      (λ _. either (λ v. Writes 1024 (outcome v)) (packetOk packet)
+      (λ _. by-room (indexOf packet) (codeOf packet) (drop 6 packet) (rule (codeOf packet)) refl (controllerAt p (indexOf packet)) refl)
+      (λ _. lit≤ tt))
 
   -- a clock reading: at most forty
   clock-room : (now : ℕ) → Writes 1024 (clockOut p now)
@@ -358,7 +368,7 @@ finish-by-room p i o none s = lit≤ tt
 finish-by-room p i o (some (general f)) s = lit≤ tt
 finish-by-room p i o (some (immediate q)) s = lit≤ tt
 finish-by-room p i o (some (radio r)) none = lit≤ tt
-finish-by-room p i o (some (radio r)) (some c) = effect-room p i (o .code) (o .params) r c
+finish-by-room p i o (some (radio r)) (some c) = acted-room p i (o .code) (o .params) r c
 
 -- it, with its rule and its controller looked up
 finish-room : (p : PlainHub) (i : ℕ) (o : OpenCommand) → Writes 1024 (finish p i o)
@@ -366,23 +376,23 @@ unfolding finish
 finish-room p i o = finish-by-room p i o (rule (o .code)) (controllerAt p i)
 
 -- Busy, started, or done at once
-contend-room : (h : Hub) (packet : Octets) (o : Outcome) (w : Bool) (x : Option OpenCommand) → Writes 1024 o → length (busyOr h packet o w x .octets) ≤ 1024
+busy-room : (h : Hub) (packet : Octets) (o : Outcome) (w : Bool) (x : Option OpenCommand) → Writes 1024 o → length (busyOr h packet o w x .octets) ≤ 1024
 unfolding busyOr keep
-contend-room h packet o w (some x) r = omega (arith, status-room (indexOf packet) (codeOf packet) 0x0A)
-contend-room h packet o true none r = lit≤ tt
-contend-room h packet o false none r = r
+busy-room h packet o w (some x) r = omega (arith, status-room (indexOf packet) (codeOf packet) 0x0A)
+busy-room h packet o true none r = lit≤ tt
+busy-room h packet o false none r = r
 
 -- a command, decided
-decided-room : (h : Hub) (packet : Octets) (v : Verdict) → Writes 1024 (outcome v) → length (commandOut h packet v .octets) ≤ 1024
+command-out-room : (h : Hub) (packet : Octets) (v : Verdict) → Writes 1024 (outcome v) → length (commandOut h packet v .octets) ≤ 1024
 unfolding commandOut keep outcome
-decided-room h packet (anyway o) r = r
-decided-room h packet (unlessBusy o w) r = contend-room h packet o w (underWay h (indexOf packet)) r
+command-out-room h packet (anyway o) r = r
+command-out-room h packet (unlessBusy o w) r = busy-room h packet o w (underWay h (indexOf packet)) r
 
 -- a report
-reported-room : (h : Hub) (i s : ℕ) (x : Option OpenCommand) → length (reportOut h i s x .octets) ≤ 1024
+report-room : (h : Hub) (i s : ℕ) (x : Option OpenCommand) → length (reportOut h i s x .octets) ≤ 1024
 unfolding reportOut keep octetsOf
-reported-room h i s none = lit≤ tt
-reported-room h i s (some o) =
+report-room h i s none = lit≤ tt
+report-room h i s (some o) =
     either {A = Result Hub} (λ r. length (r .octets) ≤ 1024) (ltb 0x14 s) (λ _. lit≤ tt)
     (λ _. either {A = Result Hub} (λ r. length (r .octets) ≤ 1024) (eqb s 0) (λ _. finish-room (h .plain) i o) (λ _. omega (arith, status-room i (o .code) s)))
 
@@ -404,8 +414,8 @@ unplugged-room h i badArgument r = lit≤ tt
 -- no call but save writes more than 1,024 octets, however wide its arguments
 pub room-hub : (h : Hub) (c : Call) → wellFormed h ≡ true → notSave c ≡ true → length (call h c .octets) ≤ 1024
 unfolding call keep callPlain octetsOf notSave
-room-hub h (command room packet) e n = decided-room h packet (verdict (h .plain) room packet) (command-room (h .plain) (well-fit h e .plain) room packet)
-room-hub h (report room i s) e n = either {A = Result Hub} (λ r. length (r .octets) ≤ 1024) (ltb room 1024) (λ _. lit≤ tt) (λ _. reported-room h i s (underWay h i))
+room-hub h (command room packet) e n = command-out-room h packet (verdict (h .plain) room packet) (command-room (h .plain) (well-fit h e .plain) room packet)
+room-hub h (report room i s) e n = either {A = Result Hub} (λ r. length (r .octets) ≤ 1024) (ltb room 1024) (λ _. lit≤ tt) (λ _. report-room h i s (underWay h i))
 room-hub h (clock room now) e n = within-room 1024 1024 room (clockOut (h .plain) now) (clock-room (h .plain) (well-fit h e .plain) now)
 room-hub h (plug room i f) e n = within-room 1024 1024 room (plugOut (h .plain) i f (controllerAt (h .plain) i)) (plug-room (h .plain) i f (controllerAt (h .plain) i))
 room-hub h (unplug room i) e n = unplugged-room h i _ (within-room 6 1024 room (unplugOut (h .plain) i (controllerAt (h .plain) i)) (unplug-room (h .plain) i (controllerAt (h .plain) i)))

@@ -3,7 +3,7 @@ use Prim.Native.Nat.{ℕ, zero, suc, _+_, _-_, _*_, _/_, _%_, _<_, _≤_}
 use native.Mathlib.Omega.{arith}
 use native.Mathlib.Nat.{mul-suc, mul-zero, add-comm, add-zero, add-suc, suc-add, zero-add}
 use mathlib.Core.Path.{_≡_, refl, sym, _∙_}
-use mathlib.Core.Bool.{true, _&&_, _||_}
+use mathlib.Core.Bool.{true, _&&_}
 use mathlib.Core.List.{List, [], _∷_, _++_, map, append-assoc, append-nil}
 use mathlib.Core.Option.{Option, none, some}
 use lib.ListN.{length, getD, take, drop, replicate, set, length-append, length-drop, take-append-drop, length-set}
@@ -12,9 +12,8 @@ use lib.Dec.{eqb, leb, ltb}
 use Rattle.model.specs.Octets.{Octets, be16, be32, bit, bytes, joined, number}
 use Rattle.model.specs.State.{Controller, Hardware, PlainHub, RadioSettings, Table, flag, noTimer}
 use Rattle.model.specs.Tables.{TableRule, chop, loaded, recordsOk, supportOk, tableRules}
-use Rattle.model.specs.Rules.{radio}
-use Rattle.model.specs.Image.{Parsed, controllerImage, controllerImages, controllerThen, flagsOf, flagsOk, image, load, nameOk, parseController, parseControllers, parseRadio, parseTables, radioOk, tableImage, tableThen}
-use Rattle.model.specs.Hub.{clock}
+use Rattle.model.specs.Image.{Parsed, controllerImage, controllerImages, controllerThen, flagsOf, flagsOk, image, load, nameOk, parseController, parseControllers}
+use Rattle.model.specs.Image.{parseRadio, parseTables, radioOk, tableImage, tableThen}
 use Rattle.model.specs.Proof.Load.{controller-load, le-of, tested, then}
 use Rattle.model.specs.Proof.Rows.{length-chop}
 use Rattle.model.specs.Proof.Tables.{byte-at, bytes-drop, entries-loaded}
@@ -120,7 +119,13 @@ tables-again f (u ∷ us) (n ∷ body) m e =
 
 -- the octets of a controller by what its reader takes, whatever follows
 controller-image : (i : ℕ) (o : Octets) (t x : Octets) → bytes o ≡ true → 283 ≤ length o → t ++ x ≡ drop 283 o
-    → i ∷ ((take 6 o ++ (getD o 6 0 ∷ (be16 (number 0 (take 2 (drop 7 o))) ++ (be32 (number 0 (take 4 (drop 9 o))) ++ (be32 (number 0 (take 4 (drop 13 o))) ++ (take 6 (drop 17 o) ++ (take 260 (drop 23 o) ++ t))))))) ++ x) ≡ i ∷ o
+    → i ∷ ((take 6 o
+    ++ (getD o 6 0 ∷ (be16 (number 0 (take 2 (drop 7 o)))
+    ++ (be32 (number 0 (take 4 (drop 9 o)))
+    ++ (be32 (number 0 (take 4 (drop 13 o)))
+    ++ (take 6 (drop 17 o)
+    ++ (take 260 (drop 23 o)
+    ++ t))))))) ++ x) ≡ i ∷ o
 controller-image i o t x w n e =
     let m : 2 ≤ length (drop 7 o) = omega (arith, length-drop 7 o) in
     let s : 4 ≤ length (drop 9 o) = omega (arith, length-drop 9 o) in
@@ -140,14 +145,15 @@ controller-again i o c w e =
     let tables : Option (Parsed (List Table)) = parseTables (r .hardware) tableRules (drop 283 o) in
     let g = tested (leb 283 (length o)) _ c e in
     let a = tested (radioOk r && (flagsOk flags && nameOk name)) _ c (g .1) in
-    let b = then tables (λ t. some (record { value = record { radio = r; host = record { settings = record { timer = noTimer; bondable = bit 4 flags }; name = name; tables = t .value } }; behind = t .behind })) c (a .1) in
-    let p : record { value = record { radio = r; host = record { settings = record { timer = noTimer; bondable = bit 4 flags }; name = name; tables = b .0 .value } }; behind = b .0 .behind } ≡ c = cc in
+    let made : List Table → Controller = λ ts. record { radio = r; host = record { settings = record { timer = noTimer; bondable = bit 4 flags }; name = name; tables = ts } } in
+    let b = then tables (λ t. some (record { value = made (t .value); behind = t .behind })) c (a .1) in
+    let p : record { value = made (b .0 .value); behind = b .0 .behind } ≡ c = cc in
     let big : 283 ≤ length o = le-of 283 (length o) (g .0) in
     let ok : flagsOk flags ≡ true = and-true (flagsOk flags) _ (and-true (radioOk r) _ (a .0) .1) .0 in
     let f : flag (bit 1 flags) 2 + flag (bit 4 flags) 16 + flag (bit 9 flags) 512 ≡ flags = flags-again flags ok in
     rw (← p, f) (controller-image i o (joined (map tableImage (b .0 .value))) (b .0 .behind) w big (tables-again (r .hardware) tableRules (drop 283 o) (b .0) (b .1)))
 
--- 5. The slots ------------------------------------------------------------------------------------------------------------------------------------
+-- 5. The indexes ------------------------------------------------------------------------------------------------------------------------------------
 
 -- octets joined with more at the end
 joined-last : (l : List Octets) (a r o : Octets) → a ++ r ≡ o → joined (l ++ (a ∷ [])) ++ r ≡ joined l ++ o
@@ -155,7 +161,7 @@ unfolding joined
 joined-last [] a r o e = rw (append-nil a, e)
 joined-last (b ∷ l) a r o e = rw (append-assoc b (joined (l ++ (a ∷ []))) r, append-assoc b (joined l) o, joined-last l a r o e)
 
--- slots that are all empty have no images
+-- indexes that are all absent have no images
 images-none : (k : ℕ) (l : List (Option Controller)) → ((j : ℕ) → getD {A = Option Controller} l j none ≡ none) → controllerImages k l ≡ []
 unfolding controllerImages
 images-none k [] h = refl
@@ -172,12 +178,14 @@ images-set k zero (some d ∷ l) c n h = let e : _≡_ {A = Option Controller} (
 images-set k (suc i) (none ∷ l) c n h = rw (images-set (suc k) i l c (omega arith) (λ j g. h (suc j) (omega arith)), suc-add, add-suc)
 images-set k (suc i) (some d ∷ l) c n h = rw (images-set (suc k) i l c (omega arith) (λ j g. h (suc j) (omega arith)), suc-add, add-suc)
 
--- slots that are empty from a place on are empty past a slot set there or later
-free-set : (l : List (Option Controller)) (i low : ℕ) (v : Option Controller) → low ≤ i → ((j : ℕ) → low ≤ j → getD {A = Option Controller} l j none ≡ none) → (j : ℕ) → suc i ≤ j → getD {A = Option Controller} (set l i v) j none ≡ none
+-- indexes that are absent from a place on are absent past one that is set there or later
+free-set : (l : List (Option Controller)) (i low : ℕ) (v : Option Controller) → low ≤ i → ((j : ℕ) → low ≤ j → getD {A = Option Controller} l j none ≡ none) → (j : ℕ) → suc i ≤ j
+    → getD {A = Option Controller} (set l i v) j none ≡ none
 free-set l i low v n h j g = getD-set-other l i j v none (λ e. omega arith) ∙ h j (omega arith)
 
--- the controllers that were read, after those that stand in the slots, are saved as the octets that they were read from, and they are as many as were asked for
-controllers-again : (n low : ℕ) (l : List (Option Controller)) (o : Octets) (s : List (Option Controller)) → bytes o ≡ true → length l ≡ 4 → ((j : ℕ) → low ≤ j → getD {A = Option Controller} l j none ≡ none)
+-- the controllers that were read, after those that stood there, are saved as the octets that they were read from, and are as many as asked for
+controllers-again : (n low : ℕ) (l : List (Option Controller)) (o : Octets) (s : List (Option Controller)) → bytes o ≡ true → length l ≡ 4
+    → ((j : ℕ) → low ≤ j → getD {A = Option Controller} l j none ≡ none)
     → parseControllers n low l o ≡ some s → (joined (controllerImages 0 s) ≡ joined (controllerImages 0 l) ++ o) × (length (controllerImages 0 s) ≡ length (controllerImages 0 l) + n)
 unfolding parseControllers bytes
 controllers-again zero low l [] s w n h e = let p : l ≡ s = cc in rw (← p) (sym (append-nil _), omega arith)
@@ -191,7 +199,8 @@ controllers-again (suc m) low l (i ∷ o) s w n h e =
     let hi : i ≤ 3 = le-of i 3 (r .1) in
     let v : Option Controller = some (b .0 .value) in
     let wo : bytes o ≡ true = and-true (ltb i 256) _ w .1 in
-    let im : controllerImages 0 (set l i v) ≡ controllerImages 0 l ++ (controllerImage i (b .0 .value) ∷ []) = rw (zero-add i) at (images-set 0 i l (b .0 .value) (omega arith) (λ j g. h j (omega arith))) in
+    let im : controllerImages 0 (set l i v) ≡ controllerImages 0 l ++ (controllerImage i (b .0 .value) ∷ []) =
+    rw (zero-add i) at (images-set 0 i l (b .0 .value) (omega arith) (λ j g. h j (omega arith))) in
     let ih = controllers-again m (suc i) (set l i v) (b .0 .behind) s (controller-load o (b .0) wo (b .1) .1) (length-set l i v ∙ n) (free-set l i low v lo h) (b .2) in (
       ih .0 ∙ rw im (joined-last (controllerImages 0 l) (controllerImage i (b .0 .value)) (b .0 .behind) (i ∷ o) (controller-again i o (b .0) wo (b .1))),
       ih .1 ∙ rw im (rw (length-append (controllerImages 0 l) (controllerImage i (b .0 .value) ∷ [])) (omega arith)),
@@ -199,7 +208,7 @@ controllers-again (suc m) low l (i ∷ o) s w n h e =
 
 -- 6. The whole --------------------------------------------------------------------------------------------------------------------------------------
 
--- slots that are all empty hold nothing at any place
+-- indexes that are all absent hold nothing at any place
 getD-nones : (n j : ℕ) → getD {A = Option Controller} (replicate n none) j none ≡ none
 getD-nones zero j = refl
 getD-nones (suc n) zero = refl

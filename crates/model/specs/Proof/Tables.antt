@@ -1,12 +1,12 @@
--- A command keeps the state well formed: the tables' laws, then a lemma for each row, then the rows as one list.
-use Prim.Native.Nat.{ℕ, zero, suc, _+_, _-_, _*_, _<_, _≤_}
+-- What freeing, replacing, adding and loading do to the entries of a table, and that a table keeps its rule through each.
+use Prim.Native.Nat.{ℕ, zero, suc, _+_, _-_, _<_, _≤_}
 use native.Mathlib.Omega.{arith}
 use mathlib.Core.Path.{_≡_, refl, sym, ap, _∙_}
 use mathlib.Core.Bool.{Bool, true, false, _&&_, _||_, not}
 use mathlib.Core.List.{List, [], _∷_, _++_, map}
-use mathlib.Core.Option.{Option, none, some}
-use lib.ListN.{length, getD, take, drop, replicate, set, length-append, length-replicate, length-map}
-use lib.Dec.{eqb, leb, ltb, T, eqb→eq, leb→le, ltb→lt, lt→ltb, eqb-refl}
+use mathlib.Core.Option.{none, some}
+use lib.ListN.{length, getD, take, drop, replicate, length-append, length-replicate, length-map}
+use lib.Dec.{eqb, ltb, T, ltb→lt, lt→ltb, eqb-refl}
 use Rattle.model.specs.Octets.{Octets, bytes, same}
 use Rattle.model.specs.State.{Hardware, Table}
 use Rattle.model.specs.Reasons.{passes}
@@ -14,8 +14,9 @@ use Rattle.model.specs.Tables.{TableRule, added, any, chop, distinct, em
 use Rattle.model.specs.WellFormed.{tableOk}
 use Rattle.model.specs.Proof.Tests.{and-true, both, either, equal, no-way, not-true, or-false, or-true}
 
--- 2. Octets that are the same -------------------------------------------------------------------------------------------------------------
+-- 1. Octets that are the same -------------------------------------------------------------------------------------------------------------
 
+-- octets that the test calls the same
 pub same-eq : (a b : Octets) → same a b ≡ true → a ≡ b
 unfolding same
 same-eq [] [] e = refl
@@ -26,6 +27,7 @@ same-eq (x ∷ xs) (y ∷ ys) e =
     let p : x ≡ y = equal x y (h .0) in
     let q : xs ≡ ys = same-eq xs ys (h .1) in cc
 
+-- a number is equal to itself
 pub eqb-self : (n : ℕ) → eqb n n ≡ true
 eqb-self n = go (eqb n n) (eqb-refl n)
   where
@@ -33,6 +35,7 @@ eqb-self n = go (eqb n n) (eqb-refl n)
     go true t = refl
     go false t = absurd t
 
+-- octets are the same as themselves
 pub same-refl : (a : Octets) → same a a ≡ true
 unfolding same
 same-refl [] = refl
@@ -46,12 +49,14 @@ same-sym a b e = go (same b a) refl
     go false f = refl
     go true f = let p : b ≡ a = same-eq b a f in no-way (sym (same-refl a) ∙ (rw p at e))
 
--- 3. Lists of records -----------------------------------------------------------------------------------------------------------------------
+-- 2. Lists of records -----------------------------------------------------------------------------------------------------------------------
 
+-- the records that do not match
 unfoldable pub without : (Octets → Bool) → List Octets → List Octets
 without m [] = []
 without m (r ∷ rs) = elim (m r) [ true ↦ without m rs | false ↦ r ∷ without m rs ]
 
+-- what holds of every record holds of those left
 every-without : (p m : Octets → Bool) (rs : List Octets) → every p rs ≡ true → every p (without m rs) ≡ true
 unfolding every without
 every-without p m [] e = refl
@@ -64,6 +69,7 @@ every-without p m (r ∷ rs) e =
     go true ih h = ih
     go false ih h = both h ih
 
+-- what holds of no key holds of no key left
 any-without : (q : Octets → Bool) (k : Octets → Octets) (m : Octets → Bool) (rs : List Octets) → any q (map k rs) ≡ false → any q (map k (without m rs)) ≡ false
 unfolding any without
 any-without q k m [] e = refl
@@ -75,6 +81,7 @@ any-without q k m (r ∷ rs) e =
     go true ih h = ih
     go false ih h = rw (h, ih)
 
+-- distinct keys stay distinct
 distinct-without : (k : Octets → Octets) (m : Octets → Bool) (rs : List Octets) → distinct (map k rs) ≡ true → distinct (map k (without m rs)) ≡ true
 unfolding distinct without
 distinct-without k m [] e = refl
@@ -87,13 +94,15 @@ distinct-without k m (r ∷ rs) e =
     go true ih h = ih
     go false ih h = rw (h, ih)
 
+-- a table that needs no support, or has it, goes on so
 empty-without : (m : Octets → Bool) (s : Bool) (rs : List Octets) → empty rs || s ≡ true → empty (without m rs) || s ≡ true
 unfolding empty without
 empty-without m s [] e = refl
 empty-without m s (r ∷ rs) e = rw e (or-true (empty (without m (r ∷ rs))))
 
--- 4. Tables: freed, replaced, added, loaded ---------------------------------------------------------------------------------------------------
+-- 3. Tables: freed, replaced, added, loaded ---------------------------------------------------------------------------------------------------
 
+-- freeing leaves the records that do not match
 pub entries-freed : (m : Octets → Bool) (t : Table) → entries (freed m t) ≡ without m (entries t)
 unfolding entries freed without
 entries-freed m [] = refl
@@ -105,18 +114,21 @@ entries-freed m (some r ∷ t) = go (m r) (entries-freed m t)
     go true ih = ih
     go false ih = ap {B = List Octets} (λ l. r ∷ l) ih
 
+-- freeing keeps the number of slots
 length-freed : (m : Octets → Bool) (t : Table) → length (freed m t) ≡ length t
 unfolding freed
 length-freed m [] = refl
 length-freed m (none ∷ t) = ap suc (length-freed m t)
 length-freed m (some r ∷ t) = ap suc (length-freed m t)
 
+-- replacing keeps the number of slots
 length-replaced : (m : Octets → Bool) (x : Octets) (t : Table) → length (replaced m x t) ≡ length t
 unfolding replaced
 length-replaced m x [] = refl
 length-replaced m x (none ∷ t) = ap suc (length-replaced m x t)
 length-replaced m x (some r ∷ t) = either {A = Table} (λ l. length l ≡ suc (length t)) (m r) (λ q. refl) (λ q. ap suc (length-replaced m x t))
 
+-- adding keeps the number of slots
 length-added : (x : Octets) (t : Table) → length (added x t) ≡ length t
 unfolding added
 length-added x [] = refl
@@ -131,6 +143,7 @@ keys-replaced k m x (none ∷ t) h = keys-replaced k m x t h
 keys-replaced k m x (some r ∷ t) h =
     either {A = Table} (λ l. map k (entries l) ≡ k r ∷ map k (entries t)) (m r) (λ q. rw (h r q)) (λ q. rw (keys-replaced k m x t h))
 
+-- what holds of the new record and of every old one holds after replacing
 every-replaced : (p m : Octets → Bool) (x : Octets) (t : Table) → p x ≡ true → every p (entries t) ≡ true → every p (entries (replaced m x t)) ≡ true
 unfolding entries replaced every
 every-replaced p m x [] px e = refl
@@ -139,19 +152,21 @@ every-replaced p m x (some r ∷ t) px e =
     let h = and-true (p r) (every p (entries t)) e in
     either {A = Table} (λ l. every p (entries l) ≡ true) (m r) (λ q. both px (h .1)) (λ q. both (h .0) (every-replaced p m x t px (h .1)))
 
--- adding to a table with a free slot
+-- what holds of the new record and of every old one holds after adding
 every-added : (p : Octets → Bool) (x : Octets) (t : Table) → p x ≡ true → every p (entries t) ≡ true → every p (entries (added x t)) ≡ true
 unfolding entries added every
 every-added p x [] px e = refl
 every-added p x (none ∷ t) px e = both px e
 every-added p x (some r ∷ t) px e = let h = and-true (p r) (every p (entries t)) e in both (h .0) (every-added p x t px (h .1))
 
+-- what holds of no key, and not of the new one, holds of none after adding
 any-added : (q : Octets → Bool) (k : Octets → Octets) (x : Octets) (t : Table) → q (k x) ≡ false → any q (map k (entries t)) ≡ false → any q (map k (entries (added x t))) ≡ false
 unfolding entries added any
 any-added q k x [] qx e = refl
 any-added q k x (none ∷ t) qx e = rw (qx, e)
 any-added q k x (some r ∷ t) qx e = let h = or-false (q (k r)) (any q (map k (entries t))) e in rw (h .0) (any-added q k x t qx (h .1))
 
+-- distinct keys, and another: distinct after adding
 distinct-added : (k : Octets → Octets) (x : Octets) (t : Table) → any (same (k x)) (map k (entries t)) ≡ false → distinct (map k (entries t)) ≡ true → distinct (map k (entries (added x t))) ≡ true
 unfolding entries added distinct any
 distinct-added k x [] n e = refl
@@ -161,24 +176,27 @@ distinct-added k x (some r ∷ t) n e =
     let g = or-false (same (k x) (k r)) (any (same (k x)) (map k (entries t))) n in
     rw (any-added (same (k r)) k x t (same-sym (k x) (k r) (g .0)) (not-true _ (h .0)), distinct-added k x t (g .1) (h .1))
 
+-- some key is such a one if that of some record is
 any-map : (q : Octets → Bool) (k : Octets → Octets) (rs : List Octets) → any q (map k rs) ≡ any (λ r. q (k r)) rs
 unfolding any
 any-map q k [] = refl
 any-map q k (r ∷ rs) = rw (any-map q k rs)
 
--- loading
+-- a table of free slots has no entries
 entries-nones : (n : ℕ) → entries (replicate n none) ≡ []
 unfolding entries
 entries-nones zero = refl
 entries-nones (suc n) = entries-nones n
 
+-- the entries of a loaded list are the list
 pub entries-loaded : (rs : List Octets) (n : ℕ) → entries (map some rs ++ replicate n none) ≡ rs
 unfolding entries
 entries-loaded [] n = entries-nones n
 entries-loaded (r ∷ rs) n = ap {B = List Octets} (λ l. r ∷ l) (entries-loaded rs n)
 
--- 5. A table stays well formed ---------------------------------------------------------------------------------------------------------------
+-- 4. A table stays well formed ---------------------------------------------------------------------------------------------------------------
 
+-- a table that keeps its rule, taken apart
 pub record TableFit (u : TableRule) (f : Hardware) (t : Table) : Type 0 where
   pub slots : length t ≡ 32
   pub octets : every bytes (entries t) ≡ true
@@ -186,6 +204,7 @@ pub record TableFit (u : TableRule) (f : Hardware) (t : Table) : Type 0 where
   pub keys : distinct (map (u .key) (entries t)) ≡ true
   pub support : supportOk u f (entries t) ≡ true
 
+-- the parts of a table that keeps its rule
 pub table-fit : (u : TableRule) (f : Hardware) (t : Table) → tableOk u f t ≡ true → TableFit u f t
 unfolding tableOk recordsOk
 table-fit u f t e =
@@ -195,10 +214,12 @@ table-fit u f t e =
     let d = and-true (every (recordOk u) (entries t)) _ (b .0) in
     record { slots = equal _ _ (w .0); octets = w .1; each = d .0; keys = d .1; support = b .1 }
 
+-- a table with these parts keeps its rule
 pub fit-table : (u : TableRule) (f : Hardware) (t : Table) → TableFit u f t → tableOk u f t ≡ true
 unfolding tableOk recordsOk
 fit-table u f t h = rw (h .slots) (both (h .octets) (both (both (h .each) (h .keys)) (h .support)))
 
+-- a table keeps its rule when records are freed
 pub freed-ok : (u : TableRule) (f : Hardware) (m : Octets → Bool) (t : Table) → tableOk u f t ≡ true → tableOk u f (freed m t) ≡ true
 unfolding supportOk
 freed-ok u f m t e =
@@ -211,8 +232,10 @@ freed-ok u f m t e =
       support = rw (entries-freed m t) (empty-without m (passes (u .support f)) (entries t) (h .support));
     })
 
+-- a table keeps its rule when a record with another key is added
 pub added-ok : (u : TableRule) (f : Hardware) (x : Octets) (t : Table) → tableOk u f t ≡ true
-    → bytes x ≡ true → eqb (length x) (u .size) ≡ true → passes (u .checks x) ≡ true → passes (u .support f) ≡ true → any (λ r. same (u .key x) (u .key r)) (entries t) ≡ false → tableOk u f (added x t) ≡ true
+    → bytes x ≡ true → eqb (length x) (u .size) ≡ true → passes (u .checks x) ≡ true → passes (u .support f) ≡ true → any (λ r. same (u .key x) (u .key r)) (entries t) ≡ false
+    → tableOk u f (added x t) ≡ true
 unfolding supportOk recordOk
 added-ok u f x t e bx lx gx s n =
     let h = table-fit u f t e in
@@ -224,6 +247,7 @@ added-ok u f x t e bx lx gx s n =
       support = rw s (or-true (empty (entries (added x t))));
     })
 
+-- a table keeps its rule when a record of the same key is replaced
 pub replaced-ok : (u : TableRule) (f : Hardware) (x : Octets) (t : Table) → tableOk u f t ≡ true
     → bytes x ≡ true → eqb (length x) (u .size) ≡ true → passes (u .checks x) ≡ true → passes (u .support f) ≡ true → tableOk u f (replaced (λ r. same (u .key x) (u .key r)) x t) ≡ true
 unfolding supportOk recordOk
@@ -238,6 +262,7 @@ replaced-ok u f x t e bx lx gx s =
       support = rw s (or-true (empty (entries (replaced m x t))));
     })
 
+-- a table keeps its rule when a record is replaced or added
 pub stored-ok : (u : TableRule) (f : Hardware) (x : Octets) (t : Table) → tableOk u f t ≡ true
     → bytes x ≡ true → eqb (length x) (u .size) ≡ true → passes (u .checks x) ≡ true → passes (u .support f) ≡ true → tableOk u f (stored (λ r. same (u .key x) (u .key r)) x t) ≡ true
 unfolding stored holds
@@ -247,6 +272,7 @@ stored-ok u f x t e bx lx gx s = go (holds (λ r. same (u .key x) (u .key r)) t)
     go true q = replaced-ok u f x t e bx lx gx s
     go false q = added-ok u f x t e bx lx gx s q
 
+-- a list that keeps the rule is loaded into a table that keeps it
 pub loaded-ok : (u : TableRule) (f : Hardware) (rs : List Octets) → length rs ≤ 32 → every bytes rs ≡ true → recordsOk u rs ≡ true → supportOk u f rs ≡ true → tableOk u f (loaded rs) ≡ true
 unfolding loaded recordsOk
 loaded-ok u f rs le br ok s =
@@ -260,32 +286,36 @@ loaded-ok u f rs le br ok s =
       support = rw (entries-loaded rs (32 - length rs)) s;
     })
 
--- 6. Octets of parts ------------------------------------------------------------------------------------------------------------------------------
+-- 5. Octets of parts ------------------------------------------------------------------------------------------------------------------------------
 
+-- the first of octets are octets
 pub bytes-take : (n : ℕ) (o : Octets) → bytes o ≡ true → bytes (take n o) ≡ true
 unfolding bytes
 bytes-take zero o e = refl
 bytes-take (suc n) [] e = refl
 bytes-take (suc n) (x ∷ o) e = let h = and-true (ltb x 256) _ e in both (h .0) (bytes-take n o (h .1))
 
+-- octets behind a place are octets
 pub bytes-drop : (n : ℕ) (o : Octets) → bytes o ≡ true → bytes (drop n o) ≡ true
 unfolding bytes
 bytes-drop zero o e = e
 bytes-drop (suc n) [] e = refl
 bytes-drop (suc n) (x ∷ o) e = bytes-drop n o (and-true (ltb x 256) _ e .1)
 
+-- records cut from octets are octets
 pub bytes-chop : (size n : ℕ) (o : Octets) → bytes o ≡ true → every bytes (chop size n o) ≡ true
 unfolding every chop
 bytes-chop size zero o e = refl
 bytes-chop size (suc n) o e = both (bytes-take size o e) (bytes-chop size n (drop size o) (bytes-drop size o e))
 
--- an octet of octets
+-- an octet at a place is below 256
 pub byte-at : (o : Octets) (k : ℕ) → bytes o ≡ true → getD o k 0 < 256
 unfolding bytes
 byte-at [] k e = omega arith
 byte-at (x ∷ o) zero e = ltb→lt x 256 (rw (and-true (ltb x 256) _ e .0) tt)
 byte-at (x ∷ o) (suc k) e = byte-at o k (and-true (ltb x 256) _ e .1)
 
+-- an order, as a test
 pub lt-true : (m n : ℕ) → m < n → ltb m n ≡ true
 lt-true m n h = go (ltb m n) (lt→ltb m n h)
   where
