@@ -1,0 +1,197 @@
+-- From what the steps of a settings command leave to what the model says of it, over plain values.
+-- Assumes nothing.
+use mathlib.Core.Path.{_≡_, refl, ap, sym, _∙_}
+use Prim.Native.Nat.{ℕ, zero, suc, _+_, _≤_, _<_}
+use native.Mathlib.Omega.{arith}
+use mathlib.Core.Bool.{Bool, true, false}
+use mathlib.Core.List.{List, [], _∷_, _++_}
+use mathlib.Core.Option.{Option, none, some}
+use lib.ListN.{length, getD}
+use lib.Dec.{eqb, ltb}
+use borrow.Author.Tests.{eq-eqb, ne-eqb, lt-ltb, le-ltb}
+use Rattle.model.specs.declared.Settings.{Settings}
+use Rattle.model.specs.declared.RadioSettings.{RadioSettings}
+use Rattle.model.specs.Octets.{Octets, octet, u16, le32, commandComplete, commandStatus}
+use Rattle.model.specs.State.{Controller, currentSettings, settingsOf, withHost, withBondable}
+use Rattle.model.specs.Reasons.{Reason, valueAbove1, statusOf, firstOf}
+use Rattle.model.specs.Rules.{refuse, done, RadioRule, on, newSettings, setPowered, setDiscoverable, setConnectable, setLowEnergy, setStaticAddress}
+use Rattle.model.specs.Immediate.{setBondable, sized, unless}
+use Rattle.model.specs.Hub.{withOpen}
+use Rattle.model.specs.Layout.{encode, decode}
+use Rattle.model.specs.Proof.Tests.{no-way}
+use Rattle.octets.specs.Parts.{writeAt}
+use Rattle.layout.specs.Places.{Ready, controllerOf, openAt, placeOf, putController}
+use Rattle.layout.specs.Open.{open-nothing, open-command}
+use Rattle.replies.specs.Answers.{Gives}
+use Rattle.replies.specs.Frames.{settingsReply, changedEvent}
+use Rattle.replies.specs.declared.Answer.{Answer}
+use Rattle.replies.specs.declared.Answer.the-variants.{Done, Started, Refused}
+use Rattle.replies.proofs.Laws.{settings-short}
+use Rattle.rules.specs.declared.Decision.{Decision}
+use Rattle.rules.specs.declared.Decision.the-variants.{Refuse, Reject, Wait, Act}
+use Rattle.rules.specs.Decisions.{decision}
+use Rattle.rules.specs.Effects.{withSettings, settingsBondable, settingsEffect, OnlySettings}
+use Rattle.rules.proofs.Ties.{refuse-fails, reject-fails, wait-passes, act-passes, bondable-only}
+use Rattle.outcomes.specs.Outcomes.{served, contended}
+use Rattle.outcomes.specs.Endings.{served-length, served-status, served-done, contended-length, contended-early, contended-busy, contended-late, contended-started, contended-done}
+use Rattle.settings.specs.Follows.{Follows, Concludes}
+
+-- 1. The reply ------------------------------------------------------------------------------------------------------------------------------------
+
+-- what is written when a command acts, in the model's words
+pub reply-is : (i code : ℕ) (c e : Controller) → settingsReply i code (currentSettings (settingsOf c)) (currentSettings (settingsOf e))
+    ≡ commandComplete i code 0 (le32 (currentSettings (settingsOf e))) ++ newSettings i c e
+unfolding settingsReply changedEvent newSettings
+reply-is i code c e = refl
+
+-- 2. Set Bondable ---------------------------------------------------------------------------------------------------------------------------------
+
+bondable-bad : (i : ℕ) (c : Controller) (ps : Octets) → 1 < getD ps 0 0 → setBondable .act i c ps ≡ refuse valueAbove1
+unfolding setBondable octet firstOf unless
+bondable-bad i c ps h = rw (lt-ltb 1 (getD ps 0 0) h)
+
+bondable-good : (i : ℕ) (c : Controller) (ps : Octets) → getD ps 0 0 ≤ 1
+    → setBondable .act i c ps
+    ≡ done (le32 (currentSettings (settingsOf (withHost c (withBondable (c .host) (on ps)))))) (newSettings i c (withHost c (withBondable (c .host) (on ps)))) (withBondable (c .host) (on ps))
+unfolding setBondable octet firstOf unless withHost
+bondable-good i c ps h = rw (le-ltb 1 (getD ps 0 0) h)
+
+-- one octet of parameters, or another number
+bondable-one : (ps : Octets) → length ps ≡ 1 → setBondable .size ps ≡ true
+unfolding setBondable sized
+bondable-one ps e = eq-eqb (length ps) 1 e
+
+bondable-other : (ps : Octets) → (length ps ≡ 1 → ⊥) → setBondable .size ps ≡ false
+unfolding setBondable sized
+bondable-other ps e = ne-eqb (length ps) 1 e
+
+on-is : (ps : Octets) → eqb (getD ps 0 0) 1 ≡ on ps
+unfolding on octet
+on-is ps = refl
+
+bondable-settings : (c : Controller) (b : Bool) → settingsOf (withHost c (withBondable (c .host) b)) ≡ settingsBondable (settingsOf c) b
+unfolding settingsOf withHost withBondable settingsBondable
+bondable-settings c b = refl
+
+module _ (s : Octets) (i : ℕ) (ps d d′ : Octets) (r : Answer) (given : Ready s i) (big : 1024 ≤ length d) where
+  -- another length
+  pub bondable-length : (length ps ≡ 1 → ⊥) → r ≡ Refused 9 → d′ ≡ writeAt d 0 (commandStatus i 0x0009 0x0D) → Gives (served s i 0x0009 ps setBondable) r d d′ s
+  bondable-length e n w = served-length s i 0x0009 ps setBondable d d′ r given big (bondable-other ps e) n w
+
+  -- another value
+  pub bondable-refused : length ps ≡ 1 → 1 < getD ps 0 0 → r ≡ Refused 9 → d′ ≡ writeAt d 0 (commandStatus i 0x0009 0x0D) → Gives (served s i 0x0009 ps setBondable) r d d′ s
+  unfolding statusOf setBondable
+  bondable-refused e h n w = served-status s i 0x0009 ps setBondable d d′ r given big (bondable-one ps e) valueAbove1 refl (bondable-bad i (controllerOf s i) ps h) n w
+
+  -- done
+  pub bondable-done : (s′ : Octets) (old new : Settings) → length ps ≡ 1 → getD ps 0 0 ≤ 1 → old ≡ settingsOf (controllerOf s i) → new ≡ settingsBondable old (eqb (getD ps 0 0) 1)
+      → r ≡ Done (length (settingsReply i 0x0009 (currentSettings old) (currentSettings new))) → d′ ≡ writeAt d 0 (settingsReply i 0x0009 (currentSettings old) (currentSettings new))
+      → s′ ≡ encode (putController (decode s) i (withSettings (controllerOf s i) new)) → Gives (served s i 0x0009 ps setBondable) r d d′ s′
+  bondable-done s′ old new l h eo en er ed es =
+      let c = controllerOf s i in
+      let e = withHost c (withBondable (c .host) (on ps)) in
+      let m : new ≡ settingsBondable (settingsOf c) (on ps) = en ∙ rw (eo, on-is ps) in
+      let x : settingsReply i 0x0009 (currentSettings old) (currentSettings new) ≡ commandComplete i 0x0009 0 (le32 (currentSettings (settingsOf e))) ++ newSettings i c e =
+      rw (m, eo, ← bondable-settings c (on ps)) (reply-is i 0x0009 c e) in
+      let k : s′ ≡ encode (putController (decode s) i e) = es ∙ rw (m, ← bondable-only c (on ps)) in
+      let short = settings-short i 0x0009 (currentSettings old) (currentSettings new) in
+      served-done s i 0x0009 ps setBondable d d′ r given big (bondable-one ps l) s′ (le32 (currentSettings (settingsOf e))) (newSettings i c e) (withBondable (c .host) (on ps))
+      (length (settingsReply i 0x0009 (currentSettings old) (currentSettings new))) (bondable-good i c ps h) er (rw x) (omega arith) (ed ∙ rw x) k
+
+-- 3. The commands that can be Busy ----------------------------------------------------------------------------------------------------------------
+
+module _ (s : Octets) (i code : ℕ) (ps : Octets) (u : RadioRule) (d d′ : Octets) (r : Answer) (given : Ready s i) (big : 1024 ≤ length d) where
+  -- another length
+  pub ends-length : (n : ℕ) → n ≡ u .size → (length ps ≡ n → ⊥) → r ≡ Refused 9 → d′ ≡ writeAt d 0 (commandStatus i code 0x0D) → Gives (contended s i code ps u) r d d′ s
+  ends-length n z e a w = contended-length s i code ps u d d′ r given big (ne-eqb (length ps) (u .size) (λ q. e (q ∙ sym z))) a w
+
+  module _ (x : Decision) (old new : Settings) (f : Follows u s i ps x old new) where
+    size : eqb (length ps) (u .size) ≡ true
+    size = eq-eqb (length ps) (u .size) (f .sized)
+
+    -- refused before Busy
+    pub ends-early : (st : ℕ) → x ≡ Refuse st → r ≡ Refused 9 → d′ ≡ writeAt d 0 (commandStatus i code st) → Gives (contended s i code ps u) r d d′ s
+    ends-early st e n w =
+        let g = refuse-fails u (controllerOf s i .radio) ps st (f .decided ∙ e) in
+        contended-early s i code ps u d d′ r given big size (g .reason) (g .first) n (w ∙ rw (g .told))
+
+    -- Busy
+    pub ends-busy : firstOf (u .beforeBusy (controllerOf s i .radio) ps) ≡ none → (u16 s (placeOf i 1) ≡ 0 → ⊥) → r ≡ Refused 9 → d′ ≡ writeAt d 0 (commandStatus i code 0x0A)
+        → Gives (contended s i code ps u) r d d′ s
+    ends-busy p o n w = contended-busy s i code ps u d d′ r given big size p _ (open-command s i given o) n w
+
+    -- Rejected
+    pub ends-late : (st : ℕ) → x ≡ Reject st → u16 s (placeOf i 1) ≡ 0 → r ≡ Refused 9 → d′ ≡ writeAt d 0 (commandStatus i code st) → Gives (contended s i code ps u) r d d′ s
+    ends-late st e o n w =
+        let g = reject-fails u (controllerOf s i .radio) ps st (f .decided ∙ e) in
+        contended-late s i code ps u d d′ r given big size (g .0) (open-nothing s i given o) (g .1 .reason) (g .1 .first) n (w ∙ rw (g .1 .told))
+
+    -- started
+    pub ends-started : x ≡ Wait → u16 s (placeOf i 1) ≡ 0 → r ≡ Started → (s′ : Octets) → s′ ≡ encode (withOpen (decode s) i (some (record { code = code; params = ps }))) → d′ ≡ d
+        → Gives (contended s i code ps u) r d d′ s′
+    ends-started e o n s′ k w =
+        let g = wait-passes u (controllerOf s i .radio) ps (f .decided ∙ e) in
+        contended-started s i code ps u d d′ r given big size (g .0) (open-nothing s i given o) (g .1) (g .2) n s′ k w
+
+    -- done at once
+    pub ends-acted : x ≡ Act → u16 s (placeOf i 1) ≡ 0 → (s′ : Octets) → r ≡ Done (length (settingsReply i code (currentSettings old) (currentSettings new)))
+        → d′ ≡ writeAt d 0 (settingsReply i code (currentSettings old) (currentSettings new)) → s′ ≡ encode (putController (decode s) i (withSettings (controllerOf s i) new))
+        → Gives (contended s i code ps u) r d d′ s′
+    ends-acted e o s′ n w k =
+        let g = act-passes u (controllerOf s i .radio) ps (f .decided ∙ e) in
+        let c = controllerOf s i in
+        let y : settingsReply i code (currentSettings old) (currentSettings new)
+            ≡ commandComplete i code 0 (le32 (currentSettings (settingsOf (u .effect c ps)))) ++ newSettings i c (u .effect c ps) =
+        rw (f .before, ← f .after) (reply-is i code c (u .effect c ps)) in
+        let short = settings-short i code (currentSettings old) (currentSettings new) in
+        contended-done s i code ps u d d′ r given big size (g .0) (open-nothing s i given o) (g .1) (g .2) s′ (settingsReply i code (currentSettings old) (currentSettings new))
+        (length (settingsReply i code (currentSettings old) (currentSettings new))) n y refl (omega arith) w (k ∙ rw (f .whole))
+
+-- a decision of another kind is past the checks before Busy
+module _ (s : Octets) (i : ℕ) (ps : Octets) (u : RadioRule) (x : Decision) (old new : Settings) (f : Follows u s i ps x old new) where
+  pub reject-past : (st : ℕ) → x ≡ Reject st → firstOf (u .beforeBusy (controllerOf s i .radio) ps) ≡ none
+  reject-past st e = reject-fails u (controllerOf s i .radio) ps st (f .decided ∙ e) .0
+
+  pub wait-past : x ≡ Wait → firstOf (u .beforeBusy (controllerOf s i .radio) ps) ≡ none
+  wait-past e = wait-passes u (controllerOf s i .radio) ps (f .decided ∙ e) .0
+
+  pub act-past : x ≡ Act → firstOf (u .beforeBusy (controllerOf s i .radio) ps) ≡ none
+  act-past e = act-passes u (controllerOf s i .radio) ps (f .decided ∙ e) .0
+
+-- 4. The five ---------------------------------------------------------------------------------------------------------------------------------------
+
+-- from the decision and the effect by value to the end that they share
+pub concluded : (s : Octets) (i code : ℕ) (ps : Octets) (u : RadioRule) (d d′ s′ : Octets) (r : Answer) (x : Decision) (old new : Settings) (n : ℕ)
+    → OnlySettings u (controllerOf s i) ps → n ≡ u .size → length ps ≡ n → old ≡ settingsOf (controllerOf s i) → x ≡ decision u (old .radio) ps → new ≡ settingsEffect u old ps
+    → Concludes s i code ps x old new r d d′ s′ → Gives (contended s i code ps u) r d d′ s′
+unfolding settingsOf
+concluded s i code ps u d d′ s′ r x old new n only z l eo ex en all =
+    let c = controllerOf s i in
+    let a : settingsEffect u (settingsOf c) ps ≡ new = sym (en ∙ rw eo) in
+    let y : decision u (c .radio) ps ≡ x = sym (ex ∙ rw eo) in
+    all u (record { sized = l ∙ z; decided = y; before = eo; after = only .settings ∙ a; whole = only .whole ∙ rw a })
+
+pub powered-size : 1 ≡ setPowered .size
+unfolding setPowered
+powered-size = refl
+
+pub discoverable-size : 3 ≡ setDiscoverable .size
+unfolding setDiscoverable
+discoverable-size = refl
+
+pub connectable-size : 1 ≡ setConnectable .size
+unfolding setConnectable
+connectable-size = refl
+
+pub low-energy-size : 1 ≡ setLowEnergy .size
+unfolding setLowEnergy
+low-energy-size = refl
+
+pub static-address-size : 6 ≡ setStaticAddress .size
+unfolding setStaticAddress
+static-address-size = refl
+
+-- Set Static Address never waits for the radio
+pub static-address-acts : (x : RadioSettings) (ps : Octets) (d : Decision) → d ≡ decision setStaticAddress x ps → d ≡ Wait → length ps ≤ 3
+unfolding setStaticAddress
+static-address-acts x ps d e w = no-way (sym (wait-passes setStaticAddress x ps (sym e ∙ w) .2))

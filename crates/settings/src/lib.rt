@@ -1,0 +1,186 @@
+// The settings commands over the lent state, and the report: each does to state and reply what the model says, octet for octet.
+ghost use mathlib.Core.Path.{_≡_};
+ghost use mathlib.Core.Bool.{true};
+ghost use Prim.Native.Nat.{_<_, _≤_};
+ghost use lib.ListN.{length};
+ghost use Rattle.model.specs.Octets.{commandStatus, u16};
+ghost use Rattle.model.specs.State.{currentSettings};
+ghost use Rattle.model.specs.Rules.{setConnectable, setDiscoverable, setLowEnergy, setPowered, setStaticAddress};
+ghost use Rattle.model.specs.Immediate.{setBondable};
+ghost use Rattle.model.specs.Layout.{decode, encode};
+ghost use Rattle.octets.specs.Parts.{writeAt};
+ghost use Rattle.layout.specs.Places.{Ready, controllerOf, putController};
+ghost use Rattle.replies.specs.Answers.{Gives};
+ghost use Rattle.replies.specs.Frames.{settingsReply};
+ghost use Rattle.replies.specs.declared.Answer.the-variants.{Done, Refused};
+ghost use Rattle.rules.specs.declared.Decision.the-variants.{Wait};
+ghost use Rattle.rules.specs.Effects.{withSettings};
+ghost use Rattle.outcomes.specs.Outcomes.{contended, reported, served};
+ghost use Rattle.settings.specs.Follows.{Concludes, Contends};
+use model::Settings;
+use replies::Answer;
+use rules::Decision;
+
+// The ways to end
+
+// A command is refused by Command Status.
+fn refuse(reply: &mut [u8], index: u64, code: u64, status: u8) -> Answer
+    requires { ⌜ 9 ≤ length (now reply) ⌝ }
+    ensures { λ r. ⌜ (r ≡ Refused 9) × (now (reply .exit) ≡ writeAt (now (reply .entry)) 0 (commandStatus index code status)) ⌝ }
+{
+    replies::command_status(reply, 0, index, code, status);
+    Answer::Refused(9)
+}
+
+// A command acts: the settings `old` become `new`, and the reply tells them.
+fn apply(state: &mut [u8], index: u64, code: u64, reply: &mut [u8], old: Settings, new: Settings) -> Answer
+    requires { ⌜ Ready (now state) index × (23 ≤ length (now reply)) ⌝ }
+    ensures { λ r. ⌜ (r ≡ Done (length (settingsReply index code (currentSettings old) (currentSettings new)))) × (now (reply .exit) ≡ writeAt (now (reply .entry)) 0 (settingsReply index code (currentSettings old) (currentSettings new))) × (now (state .exit) ≡ encode (putController (decode (now (state .entry))) index (withSettings (controllerOf (now (state .entry)) index) new))) ⌝ }
+{
+    let before = rules::current_settings(old);
+    let after = rules::current_settings(new);
+    layout::put_settings(state, index, new);
+    let count = replies::settings_reply(reply, index, code, before, after);
+    Answer::Done(count)
+}
+
+// Set Bondable
+
+// 0x0009 Set Bondable, always at once.
+pub fn set_bondable(state: &mut [u8], index: u64, ps: &[u8], reply: &mut [u8]) -> Answer
+    requires { ⌜ Ready (now state) index × (1024 ≤ length (now reply)) ⌝ }
+    ensures { λ r. ⌜ Gives (served (now (state .entry)) index 0x0009 (now (ps .entry)) setBondable) r (now (reply .entry)) (now (reply .exit)) (now (state .exit)) ⌝ }
+{
+    if ps.len() != 1 {
+        return refuse(reply, index, 0x0009, 0x0D);
+    }
+    let v = ps[0];
+    if 1 < v {
+        return refuse(reply, index, 0x0009, 0x0D);
+    }
+    let old = layout::settings_at(state, index);
+    let new = rules::with_bondable(old, v == 1);
+    apply(state, index, 0x0009, reply, old, new)
+}
+
+// The commands that can be Busy
+
+// A settings command past the checks before Busy: Busy, Rejected, started, or done at once.
+fn contend(
+    state: &mut [u8],
+    index: u64,
+    code: u64,
+    ps: &[u8],
+    reply: &mut [u8],
+    d: Decision,
+    old: Settings,
+    new: Settings,
+) -> Answer
+    requires { ⌜ Ready (now state) index × (1024 ≤ length (now reply)) × (0 < code) × (code < 65536) × (d ≡ Wait → length (now ps) ≤ 3) ⌝ }
+    ensures { λ r. ⌜ Contends (now (state .entry)) index code (now (ps .entry)) d old new r (now (reply .entry)) (now (reply .exit)) (now (state .exit)) ⌝ }
+{
+    if layout::open_code(state, index) != 0 {
+        return refuse(reply, index, code, 0x0A);
+    }
+    match d {
+        Decision::Refuse(status) => refuse(reply, index, code, status),
+        Decision::Reject(status) => refuse(reply, index, code, status),
+        Decision::Wait => {
+            layout::put_open(state, index, code, ps);
+            Answer::Started
+        }
+        Decision::Act => apply(state, index, code, reply, old, new),
+    }
+}
+
+// The end that the five share, once their length is right: refused before Busy, or as above.
+fn conclude(
+    state: &mut [u8],
+    index: u64,
+    code: u64,
+    ps: &[u8],
+    reply: &mut [u8],
+    d: Decision,
+    old: Settings,
+    new: Settings,
+) -> Answer
+    requires { ⌜ Ready (now state) index × (1024 ≤ length (now reply)) × (0 < code) × (code < 65536) × (d ≡ Wait → length (now ps) ≤ 3) ⌝ }
+    ensures { λ r. ⌜ Concludes (now (state .entry)) index code (now (ps .entry)) d old new r (now (reply .entry)) (now (reply .exit)) (now (state .exit)) ⌝ }
+{
+    match d {
+        Decision::Refuse(status) => refuse(reply, index, code, status),
+        Decision::Reject(_) => contend(state, index, code, ps, reply, d, old, new),
+        Decision::Wait => contend(state, index, code, ps, reply, d, old, new),
+        Decision::Act => contend(state, index, code, ps, reply, d, old, new),
+    }
+}
+
+// 0x0005 Set Powered.
+pub fn set_powered(state: &mut [u8], index: u64, ps: &[u8], reply: &mut [u8]) -> Answer
+    requires { ⌜ Ready (now state) index × (1024 ≤ length (now reply)) ⌝ }
+    ensures { λ r. ⌜ Gives (contended (now (state .entry)) index 0x0005 (now (ps .entry)) setPowered) r (now (reply .entry)) (now (reply .exit)) (now (state .exit)) ⌝ }
+{
+    if ps.len() != 1 {
+        return refuse(reply, index, 0x0005, 0x0D);
+    }
+    let old = layout::settings_at(state, index);
+    let d = rules::decide_powered(old.radio, ps);
+    let new = rules::effect_powered(old, ps);
+    conclude(state, index, 0x0005, ps, reply, d, old, new)
+}
+
+// 0x0006 Set Discoverable.
+pub fn set_discoverable(state: &mut [u8], index: u64, ps: &[u8], reply: &mut [u8]) -> Answer
+    requires { ⌜ Ready (now state) index × (1024 ≤ length (now reply)) ⌝ }
+    ensures { λ r. ⌜ Gives (contended (now (state .entry)) index 0x0006 (now (ps .entry)) setDiscoverable) r (now (reply .entry)) (now (reply .exit)) (now (state .exit)) ⌝ }
+{
+    if ps.len() != 3 {
+        return refuse(reply, index, 0x0006, 0x0D);
+    }
+    let old = layout::settings_at(state, index);
+    let d = rules::decide_discoverable(old.radio, ps);
+    let new = rules::effect_discoverable(old, ps);
+    conclude(state, index, 0x0006, ps, reply, d, old, new)
+}
+
+// 0x0007 Set Connectable.
+pub fn set_connectable(state: &mut [u8], index: u64, ps: &[u8], reply: &mut [u8]) -> Answer
+    requires { ⌜ Ready (now state) index × (1024 ≤ length (now reply)) ⌝ }
+    ensures { λ r. ⌜ Gives (contended (now (state .entry)) index 0x0007 (now (ps .entry)) setConnectable) r (now (reply .entry)) (now (reply .exit)) (now (state .exit)) ⌝ }
+{
+    if ps.len() != 1 {
+        return refuse(reply, index, 0x0007, 0x0D);
+    }
+    let old = layout::settings_at(state, index);
+    let d = rules::decide_connectable(old.radio, ps);
+    let new = rules::effect_connectable(old, ps);
+    conclude(state, index, 0x0007, ps, reply, d, old, new)
+}
+
+// 0x000D Set Low Energy.
+pub fn set_low_energy(state: &mut [u8], index: u64, ps: &[u8], reply: &mut [u8]) -> Answer
+    requires { ⌜ Ready (now state) index × (1024 ≤ length (now reply)) ⌝ }
+    ensures { λ r. ⌜ Gives (contended (now (state .entry)) index 0x000D (now (ps .entry)) setLowEnergy) r (now (reply .entry)) (now (reply .exit)) (now (state .exit)) ⌝ }
+{
+    if ps.len() != 1 {
+        return refuse(reply, index, 0x000D, 0x0D);
+    }
+    let old = layout::settings_at(state, index);
+    let d = rules::decide_low_energy(old.radio, ps);
+    let new = rules::effect_low_energy(old, ps);
+    conclude(state, index, 0x000D, ps, reply, d, old, new)
+}
+
+// 0x002B Set Static Address.
+pub fn set_static_address(state: &mut [u8], index: u64, ps: &[u8], reply: &mut [u8]) -> Answer
+    requires { ⌜ Ready (now state) index × (1024 ≤ length (now reply)) ⌝ }
+    ensures { λ r. ⌜ Gives (contended (now (state .entry)) index 0x002B (now (ps .entry)) setStaticAddress) r (now (reply .entry)) (now (reply .exit)) (now (state .exit)) ⌝ }
+{
+    if ps.len() != 6 {
+        return refuse(reply, index, 0x002B, 0x0D);
+    }
+    let old = layout::settings_at(state, index);
+    let d = rules::decide_static_address(old.radio, ps);
+    let new = rules::effect_static_address(old, ps);
+    conclude(state, index, 0x002B, ps, reply, d, old, new)
+}
