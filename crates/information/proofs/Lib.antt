@@ -1,0 +1,3 @@
+pub mod General
+pub mod Name
+pub mod Controller

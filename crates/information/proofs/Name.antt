@@ -1,0 +1,100 @@
+-- Set Local Name: from what its steps leave to what the model says of it, over plain values.
+-- Assumes nothing.
+use mathlib.Core.Path.{_≡_, refl, ap, sym, _∙_}
+use Prim.Native.Nat.{ℕ, zero, suc, _+_, _-_, _*_, _≤_, _<_}
+use native.Mathlib.Omega.{arith}
+use mathlib.Core.Bool.{Bool, true, false, not}
+use mathlib.Core.List.{List, [], _∷_, _++_, append-nil}
+use lib.ListN.{length, getD, take, drop, length-append}
+use lib.Dec.{eqb, lit≤}
+use lib.Seq.{take-all}
+use borrow.Author.Tests.{eq-eqb, ne-eqb}
+use Rattle.model.specs.Octets.{Octets, octet, same, event, commandComplete, commandStatus}
+use Rattle.model.specs.State.{Controller, nameEnds, shortNameEnds, withHost, withName}
+use Rattle.model.specs.Reasons.{_⇒_, firstOf, statusOf, nameNotEnded, shortNameNotEnded}
+use Rattle.model.specs.Rules.{Immediate, refuse, done}
+use Rattle.model.specs.Immediate.{unless, sized, setLocalName}
+use Rattle.model.specs.Layout.{encode, decode}
+use Rattle.octets.specs.Parts.{part, placeAt, writeAt}
+use Rattle.layout.specs.Places.{Ready, controllerOf, placeOf, putController, sizes}
+use Rattle.layout.specs.Reads.{name-at}
+use Rattle.replies.specs.Answers.{Gives}
+use Rattle.replies.specs.declared.Answer.{Answer}
+use Rattle.replies.specs.declared.Answer.the-variants.{Done, Refused}
+use Rattle.replies.proofs.Laws.{length-complete, length-event, then}
+use Rattle.outcomes.specs.Outcomes.{served}
+use Rattle.outcomes.specs.Endings.{served-length, served-status, served-done}
+
+-- what the rule says, case by case
+size-true : (ps : Octets) → length ps ≡ 260 → setLocalName .size ps ≡ true
+unfolding setLocalName sized
+size-true ps e = eq-eqb (length ps) 260 e
+
+size-false : (ps : Octets) → (length ps ≡ 260 → ⊥) → setLocalName .size ps ≡ false
+unfolding setLocalName sized
+size-false ps e = ne-eqb (length ps) 260 e
+
+act-name : (i : ℕ) (c : Controller) (ps : Octets) → (getD ps 248 0 ≡ 0 → ⊥) → setLocalName .act i c ps ≡ refuse nameNotEnded
+unfolding setLocalName nameEnds octet firstOf unless
+act-name i c ps e = rw (ne-eqb (getD ps 248 0) 0 e)
+
+act-short : (i : ℕ) (c : Controller) (ps : Octets) → getD ps 248 0 ≡ 0 → (getD ps 259 0 ≡ 0 → ⊥) → setLocalName .act i c ps ≡ refuse shortNameNotEnded
+unfolding setLocalName nameEnds shortNameEnds octet firstOf unless
+act-short i c ps e f = rw (eq-eqb (getD ps 248 0) 0 e, ne-eqb (getD ps 259 0) 0 f)
+
+-- Local Name Changed, unless the octets are the same
+nameChanged : Bool → ℕ → Octets → Octets
+nameChanged b i ps = elim b [ true ↦ [] | false ↦ event 0x0008 i ps ]
+
+act-done : (i : ℕ) (c : Controller) (ps : Octets) (b : Bool) → getD ps 248 0 ≡ 0 → getD ps 259 0 ≡ 0 → same ps (c .host .name) ≡ b
+    → setLocalName .act i c ps ≡ done ps (nameChanged b i ps) (withName (c .host) ps)
+unfolding setLocalName nameEnds shortNameEnds octet firstOf unless nameChanged
+act-done i c ps b e f g = rw (eq-eqb (getD ps 248 0) 0 e, eq-eqb (getD ps 259 0) 0 f, g)
+
+-- the octets compared are all of the parameters, and the name that stands there
+same-name : (s : Octets) (i : ℕ) (ps : Octets) (place : ℕ) (b : Bool) → length ps ≡ 260 → place ≡ placeOf i 4 → b ≡ same (part ps 0 260) (part s place 260)
+    → same ps (controllerOf s i .host .name) ≡ b
+unfolding part
+same-name s i ps place b n e g =
+    let q : take 260 (drop 0 ps) ≡ ps = take-all 260 ps (omega arith) in
+    sym (g ∙ rw (e, name-at s i, q))
+
+module _ (s : Octets) (i : ℕ) (ps d d′ : Octets) (r : Answer) (g : Ready s i) (big : 1024 ≤ length d) where
+  -- the three refusals
+  pub name-length : (length ps ≡ 260 → ⊥) → r ≡ Refused 9 → d′ ≡ writeAt d 0 (commandStatus i 15 0x0D) → Gives (served s i 15 ps setLocalName) r d d′ s
+  name-length e n w = served-length s i 15 ps setLocalName d d′ r g big (size-false ps e) n w
+
+  pub name-open : length ps ≡ 260 → (getD ps 248 0 ≡ 0 → ⊥) → r ≡ Refused 9 → d′ ≡ writeAt d 0 (commandStatus i 15 0x0D) → Gives (served s i 15 ps setLocalName) r d d′ s
+  unfolding statusOf setLocalName
+  name-open l e n w = served-status s i 15 ps setLocalName d d′ r g big (size-true ps l) nameNotEnded refl (act-name i (controllerOf s i) ps e) n w
+
+  pub short-open : length ps ≡ 260 → getD ps 248 0 ≡ 0 → (getD ps 259 0 ≡ 0 → ⊥) → r ≡ Refused 9 → d′ ≡ writeAt d 0 (commandStatus i 15 0x0D) → Gives (served s i 15 ps setLocalName) r d d′ s
+  unfolding statusOf setLocalName
+  short-open l e f n w = served-status s i 15 ps setLocalName d d′ r g big (size-true ps l) shortNameNotEnded refl (act-short i (controllerOf s i) ps e f) n w
+
+  module _ (l : length ps ≡ 260) (e : getD ps 248 0 ≡ 0) (f : getD ps 259 0 ≡ 0) (place : ℕ) (p : place ≡ placeOf i 4) (b : Bool) (k : b ≡ same (part ps 0 260) (part s place 260)) (s′ : Octets)
+      (put : s′ ≡ encode (putController (decode s) i (withHost (controllerOf s i) (withName (controllerOf s i .host) ps)))) where
+    -- the same name: the reply is all
+    pub name-kept : b ≡ true → r ≡ Done 269 → d′ ≡ writeAt d 0 (commandComplete i 15 0 ps) → Gives (served s i 15 ps setLocalName) r d d′ s′
+    unfolding nameChanged
+    name-kept t n w =
+        let m = length-complete i 15 0 ps 260 l in
+        served-done s i 15 ps setLocalName d d′ r g big (size-true ps l) s′ ps [] (withName (controllerOf s i .host) ps) 269
+        (act-done i (controllerOf s i) ps true e f (same-name s i ps place b l p k ∙ t)) n (rw append-nil m) (lit≤ tt) (w ∙ rw append-nil) put
+
+    -- another name: Local Name Changed follows the reply
+    pub name-new : b ≡ false → (d₁ : Octets) → d₁ ≡ writeAt d 0 (commandComplete i 15 0 ps) → d′ ≡ writeAt d₁ 269 (event 0x0008 i ps) → r ≡ Done 535
+        → Gives (served s i 15 ps setLocalName) r d d′ s′
+    unfolding nameChanged
+    name-new t d₁ w₁ w n =
+        let m = length-complete i 15 0 ps 260 l in
+        let o = length-event 0x0008 i ps 260 l in
+        let z : length (commandComplete i 15 0 ps ++ event 0x0008 i ps) ≡ 535 = rw (length-append, m, o) in
+        served-done s i 15 ps setLocalName d d′ r g big (size-true ps l) s′ ps (event 0x0008 i ps) (withName (controllerOf s i .host) ps) 535
+        (act-done i (controllerOf s i) ps false e f (same-name s i ps place b l p k ∙ t)) n z (lit≤ tt)
+        (w ∙ rw w₁ (then d 0 (commandComplete i 15 0 ps) (event 0x0008 i ps) 269 (rw m))) put
+
+-- the name lies inside the state
+pub name-fits : (i place : ℕ) → i < 4 → place ≡ placeOf i 4 → place + 260 ≤ 16116
+unfolding placeOf placeAt sizes
+name-fits i place l e = omega arith

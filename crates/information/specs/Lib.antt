@@ -1,0 +1,2 @@
+pub mod General
+pub mod Controller

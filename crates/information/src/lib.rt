@@ -1,0 +1,186 @@
+// The commands that tell of the hub and of a controller: version, commands, indexes, controller information; and the name, which is set here.
+ghost use mathlib.Core.Path.{_≡_};
+ghost use mathlib.Core.Bool.{true};
+ghost use Prim.Native.Nat.{_+_, _≤_, _<_};
+ghost use lib.ListN.{length};
+ghost use Rattle.model.specs.Commands.{readVersion, readCommands, readIndexes, words};
+ghost use Rattle.model.specs.Layout.{decode};
+ghost use Rattle.model.specs.Meanings.{stateOk};
+ghost use Rattle.octets.specs.Parts.{writeAt};
+ghost use Rattle.replies.specs.Answers.{Gives};
+ghost use Rattle.replies.specs.declared.Answer.the-variants.{Refused};
+ghost use Rattle.model.specs.Octets.{commandStatus};
+ghost use Rattle.outcomes.specs.Outcomes.{general};
+ghost use Rattle.information.specs.General.{Reply, listed};
+ghost use Rattle.information.specs.Controller.{informationHead, informationOf};
+ghost use Rattle.model.specs.Immediate.{readInformation, setLocalName};
+ghost use Rattle.layout.specs.Places.{Ready, controllerOf};
+ghost use Rattle.outcomes.specs.Outcomes.{served};
+use model::Hardware;
+use replies::Answer;
+
+// A general command whose return parameters are `body`: the index is 0xFFFF and there are no parameters, else it is refused.
+fn general_reply(index: u64, code: u64, ps: &[u8], body: &[u8], reply: &mut [u8]) -> Answer
+    requires { ⌜ (1024 ≤ length (now reply)) × (length (now body) ≤ 1000) ⌝ }
+    ensures { λ r. ⌜ Reply index code (now (ps .entry)) (now (body .entry)) r (now (reply .entry)) (now (reply .exit)) ⌝ }
+{
+    if index == 0xFFFF {
+        if ps.len() == 0 {
+            replies::command_complete(reply, 0, index, code, 0, body);
+            return Answer::Done(9 + body.len());
+        }
+        replies::command_status(reply, 0, index, code, 0x0D);
+        return Answer::Refused(9);
+    }
+    replies::command_status(reply, 0, index, code, 0x11);
+    Answer::Refused(9)
+}
+
+// 0x0001 Read Version: version 1, revision 10.
+pub fn read_version(state: &[u8], index: u64, ps: &[u8], reply: &mut [u8]) -> Answer
+    requires { ⌜ (stateOk (now state) ≡ true) × (1024 ≤ length (now reply)) ⌝ }
+    ensures { λ r. ⌜ Gives (general (now (state .entry)) index 1 (now (ps .entry)) readVersion) r (now (reply .entry)) (now (reply .exit)) (now (state .entry)) ⌝ }
+{
+    let body: [u8; 3] = [1, 10, 0];
+    general_reply(index, 0x0001, ps, &body, reply)
+}
+
+// 0x0002 Read Commands: 19 commands and 10 events, then their codes, two octets each.
+pub fn read_commands(state: &[u8], index: u64, ps: &[u8], reply: &mut [u8]) -> Answer
+    requires { ⌜ (stateOk (now state) ≡ true) × (1024 ≤ length (now reply)) ⌝ }
+    ensures { λ r. ⌜ Gives (general (now (state .entry)) index 2 (now (ps .entry)) readCommands) r (now (reply .entry)) (now (reply .exit)) (now (state .entry)) ⌝ }
+{
+    let body: [u8; 62] = [
+        19, 0, 10, 0,
+        0x03, 0, 0x04, 0, 0x05, 0, 0x06, 0, 0x07, 0, 0x09, 0, 0x0D, 0, 0x0F, 0, 0x10, 0, 0x11, 0,
+        0x12, 0, 0x13, 0, 0x1B, 0, 0x26, 0, 0x27, 0, 0x2B, 0, 0x30, 0, 0x33, 0, 0x34, 0,
+        0x04, 0, 0x05, 0, 0x06, 0, 0x07, 0, 0x08, 0, 0x14, 0, 0x15, 0, 0x16, 0, 0x1A, 0, 0x1B, 0,
+    ];
+    general_reply(index, 0x0002, ps, &body, reply)
+}
+
+// Writes index i at the place `at` if it holds a controller. Returns the place behind.
+fn list_index(state: &[u8], i: u64, out: &mut [u8], at: usize) -> usize
+    requires { ⌜ (length (now state) ≡ 16116) × (at + 2 ≤ length (now out)) ⌝ }
+    ensures { λ r. ⌜ (r ≡ at + length (words (listed (now (state .entry)) i))) × (r ≤ at + 2) × (now (out .exit) ≡ writeAt (now (out .entry)) at (words (listed (now (state .entry)) i))) ⌝ }
+{
+    if layout::present(state, i) {
+        octets::put16(out, at, i);
+        return at + 2;
+    }
+    at
+}
+
+// Writes the count of the present indexes and the indexes, ascending. Returns the count of octets.
+fn list_indexes(state: &[u8], out: &mut [u8]) -> usize
+    requires { ⌜ (length (now state) ≡ 16116) × (length (now out) ≡ 10) ⌝ }
+    ensures { λ r. ⌜ (r ≡ length (readIndexes (decode (now (state .entry)) .plain))) × (r ≤ 10) × (now (out .exit) ≡ writeAt (now (out .entry)) 0 (readIndexes (decode (now (state .entry)) .plain))) ⌝ }
+{
+    let a = list_index(state, 0, out, 2);
+    let b = list_index(state, 1, out, a);
+    let c = list_index(state, 2, out, b);
+    let d = list_index(state, 3, out, c);
+    octets::put16(out, 0, ((d - 2) / 2) as u64);
+    d
+}
+
+// 0x0003 Read Indexes: the indexes that hold a controller, ascending.
+pub fn read_indexes(state: &[u8], index: u64, ps: &[u8], reply: &mut [u8]) -> Answer
+    requires { ⌜ (stateOk (now state) ≡ true) × (1024 ≤ length (now reply)) ⌝ }
+    ensures { λ r. ⌜ Gives (general (now (state .entry)) index 3 (now (ps .entry)) readIndexes) r (now (reply .entry)) (now (reply .exit)) (now (state .entry)) ⌝ }
+{
+    let mut body: [u8; 10] = [0; 10];
+    let n = list_indexes(state, &mut body);
+    general_reply(index, 0x0003, ps, &body[..n], reply)
+}
+
+// Refuses Set Local Name: Invalid Parameters.
+fn refuse_name(reply: &mut [u8], index: u64) -> Answer
+    requires { ⌜ 1024 ≤ length (now reply) ⌝ }
+    ensures { λ r. ⌜ (r ≡ Refused 9) × (now (reply .exit) ≡ writeAt (now (reply .entry)) 0 (commandStatus index 15 0x0D)) ⌝ }
+{
+    replies::command_status(reply, 0, index, 0x000F, 0x0D);
+    Answer::Refused(9)
+}
+
+// 0x000F Set Local Name: name and short name, each with a zero at its end. Local Name Changed only if an octet changed.
+pub fn set_local_name(state: &mut [u8], index: u64, ps: &[u8], reply: &mut [u8]) -> Answer
+    requires { ⌜ Ready (now state) index × (1024 ≤ length (now reply)) ⌝ }
+    ensures { λ r. ⌜ Gives (served (now (state .entry)) index 15 (now (ps .entry)) setLocalName) r (now (reply .entry)) (now (reply .exit)) (now (state .exit)) ⌝ }
+{
+    if ps.len() != 260 {
+        return refuse_name(reply, index);
+    }
+    if ps[248] != 0 {
+        return refuse_name(reply, index);
+    }
+    if ps[259] != 0 {
+        return refuse_name(reply, index);
+    }
+    let place = layout::name_place(index);
+    let kept = octets::same_part(ps, 0, state, place, 260);
+    layout::put_name(state, index, ps);
+    replies::command_complete(reply, 0, index, 0x000F, 0, ps);
+    if kept {
+        return Answer::Done(269);
+    }
+    replies::event(reply, 269, 0x0008, index, ps);
+    Answer::Done(535)
+}
+
+// Version, manufacturer, supported and current settings, and the class with these hints: what stands between the address and the name.
+fn information_head(f: Hardware, current: u64, hints: u8) -> [u8; 14]
+    ensures { λ r. ⌜ r ≡ informationHead f current hints ⌝ }
+{
+    let m = f.manufacturer;
+    let n = f.supported;
+    [
+        f.version,
+        (m % 256) as u8,
+        (m / 256 % 256) as u8,
+        (n % 256) as u8,
+        (n / 256 % 256) as u8,
+        (n / 65536 % 256) as u8,
+        (n / 16777216 % 256) as u8,
+        (current % 256) as u8,
+        (current / 256 % 256) as u8,
+        (current / 65536 % 256) as u8,
+        (current / 16777216 % 256) as u8,
+        0,
+        0,
+        hints,
+    ]
+}
+
+// Writes what is told of the controller at an index.
+fn put_information(state: &[u8], index: u64, out: &mut [u8])
+    requires { ⌜ Ready (now state) index × (length (now out) ≡ 280) ⌝ }
+    ensures { λ _. ⌜ now (out .exit) ≡ informationOf (controllerOf (now (state .entry)) index) ⌝ }
+{
+    let m = layout::settings_at(state, index);
+    let f = layout::hardware_at(state, index);
+    let current = rules::current_settings(m);
+    let uuids = layout::table_place(index, 0);
+    let hints = table::or_octets(state, uuids, 17, 16);
+    let head = information_head(f, current, hints);
+    let address = f.publicAddress;
+    let name = layout::name_place(index);
+    octets::copy_into(out, 0, &address);
+    octets::copy_into(out, 6, &head);
+    octets::copy_part(out, 20, state, name, 260);
+}
+
+// 0x0004 Read Controller Information, 280 octets; the state is only read.
+pub fn read_information(state: &[u8], index: u64, ps: &[u8], reply: &mut [u8]) -> Answer
+    requires { ⌜ Ready (now state) index × (1024 ≤ length (now reply)) ⌝ }
+    ensures { λ r. ⌜ Gives (served (now (state .entry)) index 4 (now (ps .entry)) readInformation) r (now (reply .entry)) (now (reply .exit)) (now (state .entry)) ⌝ }
+{
+    if ps.len() != 0 {
+        replies::command_status(reply, 0, index, 0x0004, 0x0D);
+        return Answer::Refused(9);
+    }
+    let mut body: [u8; 280] = [0; 280];
+    put_information(state, index, &mut body);
+    replies::command_complete(reply, 0, index, 0x0004, 0, &body);
+    Answer::Done(289)
+}
