@@ -1,26 +1,26 @@
 -- From what the steps of a settings command leave to what the model says of it, over plain values.
 -- Assumes nothing.
-use mathlib.Core.Path.{_≡_, refl, ap, sym, _∙_}
-use Prim.Native.Nat.{ℕ, zero, suc, _+_, _≤_, _<_}
+use mathlib.Core.Path.{_≡_, refl, sym, _∙_}
+use Prim.Native.Nat.{ℕ, _+_, _≤_, _<_}
 use native.Mathlib.Omega.{arith}
 use mathlib.Core.Bool.{Bool, true, false}
-use mathlib.Core.List.{List, [], _∷_, _++_}
-use mathlib.Core.Option.{Option, none, some}
+use mathlib.Core.List.{_++_}
+use mathlib.Core.Option.{none, some}
 use lib.ListN.{length, getD}
-use lib.Dec.{eqb, ltb}
+use lib.Dec.{eqb}
 use borrow.Author.Tests.{eq-eqb, ne-eqb, lt-ltb, le-ltb}
 use Rattle.model.specs.declared.Settings.{Settings}
 use Rattle.model.specs.declared.RadioSettings.{RadioSettings}
 use Rattle.model.specs.Octets.{Octets, octet, u16, le32, commandComplete, commandStatus}
 use Rattle.model.specs.State.{Controller, currentSettings, settingsOf, withHost, withBondable}
-use Rattle.model.specs.Reasons.{Reason, valueAbove1, statusOf, firstOf}
+use Rattle.model.specs.Reasons.{valueAbove1, statusOf, firstOf}
 use Rattle.model.specs.Rules.{refuse, done, RadioRule, on, newSettings, setPowered, setDiscoverable, setConnectable, setLowEnergy, setStaticAddress}
 use Rattle.model.specs.Immediate.{setBondable, sized, unless}
 use Rattle.model.specs.Hub.{withOpen}
 use Rattle.model.specs.Layout.{encode, decode}
 use Rattle.model.specs.Proof.Tests.{no-way}
 use Rattle.octets.specs.Parts.{writeAt}
-use Rattle.layout.specs.Places.{Ready, controllerOf, openAt, placeOf, putController}
+use Rattle.layout.specs.Places.{Ready, controllerOf, placeOf, putController}
 use Rattle.layout.specs.Open.{open-nothing, open-command}
 use Rattle.replies.specs.Answers.{Gives}
 use Rattle.replies.specs.Frames.{settingsReply, changedEvent}
@@ -141,7 +141,7 @@ module _ (s : Octets) (i code : ℕ) (ps : Octets) (u : RadioRule) (d d′ : Oct
         let g = act-passes u (controllerOf s i .radio) ps (f .decided ∙ e) in
         let c = controllerOf s i in
         let y : settingsReply i code (currentSettings old) (currentSettings new)
-            ≡ commandComplete i code 0 (le32 (currentSettings (settingsOf (u .effect c ps)))) ++ newSettings i c (u .effect c ps) =
+        ≡ commandComplete i code 0 (le32 (currentSettings (settingsOf (u .effect c ps)))) ++ newSettings i c (u .effect c ps) =
         rw (f .before, ← f .after) (reply-is i code c (u .effect c ps)) in
         let short = settings-short i code (currentSettings old) (currentSettings new) in
         contended-done s i code ps u d d′ r given big size (g .0) (open-nothing s i given o) (g .1) (g .2) s′ (settingsReply i code (currentSettings old) (currentSettings new))

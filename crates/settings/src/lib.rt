@@ -1,15 +1,16 @@
 // The settings commands over the lent state, and the report: each does to state and reply what the model says, octet for octet.
 ghost use mathlib.Core.Path.{_≡_};
 ghost use mathlib.Core.Bool.{true};
-ghost use Prim.Native.Nat.{_<_, _≤_};
+ghost use Prim.Native.Nat.{_+_, _<_, _≤_};
 ghost use lib.ListN.{length};
 ghost use Rattle.model.specs.Octets.{commandStatus, u16};
 ghost use Rattle.model.specs.State.{currentSettings};
 ghost use Rattle.model.specs.Rules.{setConnectable, setDiscoverable, setLowEnergy, setPowered, setStaticAddress};
 ghost use Rattle.model.specs.Immediate.{setBondable};
 ghost use Rattle.model.specs.Layout.{decode, encode};
+ghost use Rattle.model.specs.Meanings.{stateOk};
 ghost use Rattle.octets.specs.Parts.{writeAt};
-ghost use Rattle.layout.specs.Places.{Ready, controllerOf, putController};
+ghost use Rattle.layout.specs.Places.{Ready, controllerOf, placeOf, putController};
 ghost use Rattle.replies.specs.Answers.{Gives};
 ghost use Rattle.replies.specs.Frames.{settingsReply};
 ghost use Rattle.replies.specs.declared.Answer.the-variants.{Done, Refused};
@@ -17,6 +18,7 @@ ghost use Rattle.rules.specs.declared.Decision.the-variants.{Wait};
 ghost use Rattle.rules.specs.Effects.{withSettings};
 ghost use Rattle.outcomes.specs.Outcomes.{contended, reported, served};
 ghost use Rattle.settings.specs.Follows.{Concludes, Contends};
+ghost use Rattle.settings.specs.Opens.{Makes};
 use model::Settings;
 use replies::Answer;
 use rules::Decision;
@@ -33,7 +35,14 @@ fn refuse(reply: &mut [u8], index: u64, code: u64, status: u8) -> Answer
 }
 
 // A command acts: the settings `old` become `new`, and the reply tells them.
-fn apply(state: &mut [u8], index: u64, code: u64, reply: &mut [u8], old: Settings, new: Settings) -> Answer
+fn apply(
+    state: &mut [u8],
+    index: u64,
+    code: u64,
+    reply: &mut [u8],
+    old: Settings,
+    new: Settings,
+) -> Answer
     requires { ⌜ Ready (now state) index × (23 ≤ length (now reply)) ⌝ }
     ensures { λ r. ⌜ (r ≡ Done (length (settingsReply index code (currentSettings old) (currentSettings new)))) × (now (reply .exit) ≡ writeAt (now (reply .entry)) 0 (settingsReply index code (currentSettings old) (currentSettings new))) × (now (state .exit) ≡ encode (putController (decode (now (state .entry))) index (withSettings (controllerOf (now (state .entry)) index) new))) ⌝ }
 {
@@ -183,4 +192,58 @@ pub fn set_static_address(state: &mut [u8], index: u64, ps: &[u8], reply: &mut [
     let d = rules::decide_static_address(old.radio, ps);
     let new = rules::effect_static_address(old, ps);
     conclude(state, index, 0x002B, ps, reply, d, old, new)
+}
+
+// The report
+
+// What a command under way, with its parameters at a place of the state, makes of the settings `old`.
+fn acted_settings(state: &[u8], at: usize, code: u64, old: Settings) -> Settings
+    requires { ⌜ at + 3 ≤ length (now state) ⌝ }
+    ensures { λ new. ⌜ Makes code (now (state .entry)) at old new ⌝ }
+{
+    if code == 0x0005 {
+        return rules::effect_powered(old, &state[at..at + 1]);
+    }
+    if code == 0x0006 {
+        return rules::effect_discoverable(old, &state[at..at + 3]);
+    }
+    if code == 0x0007 {
+        return rules::effect_connectable(old, &state[at..at + 1]);
+    }
+    rules::effect_low_energy(old, &state[at..at + 1])
+}
+
+// The command under way acts, on the settings as they are now, and is under way no more.
+fn finish(state: &mut [u8], index: u64, code: u64, reply: &mut [u8]) -> Answer
+    requires { ⌜ Ready (now state) index × (1024 ≤ length (now reply)) × (code ≡ u16 (now state) (placeOf index 1)) × (code ≡ 0 → ⊥) ⌝ }
+    ensures { λ r. ⌜ Gives (reported (now (state .entry)) index 0) r (now (reply .entry)) (now (reply .exit)) (now (state .exit)) ⌝ }
+{
+    let old = layout::settings_at(state, index);
+    let at = layout::open_place(index) + 2;
+    let new = acted_settings(state, at, code, old);
+    layout::clear_open(state, index);
+    apply(state, index, code, reply, old, new)
+}
+
+// The radio reports on the command under way at index: status 0, it acts; 0x01 to 0x14, it failed.
+pub fn report(state: &mut [u8], index: u64, status: u64, reply: &mut [u8]) -> Answer
+    requires { ⌜ (stateOk (now state) ≡ true) × (length (now state) ≡ 16116) × (1024 ≤ length (now reply)) ⌝ }
+    ensures { λ r. ⌜ Gives (reported (now (state .entry)) index status) r (now (reply .entry)) (now (reply .exit)) (now (state .exit)) ⌝ }
+{
+    if layout::present(state, index) {
+        let code = layout::open_code(state, index);
+        if code == 0 {
+            return Answer::BadArgument;
+        }
+        if 0x14 < status {
+            return Answer::BadArgument;
+        }
+        if status == 0 {
+            return finish(state, index, code, reply);
+        }
+        replies::command_status(reply, 0, index, code, status as u8);
+        layout::clear_open(state, index);
+        return Answer::Done(9);
+    }
+    Answer::BadArgument
 }

@@ -1,0 +1,3 @@
+pub mod Plugs
+pub mod Timers
+pub mod Reading

@@ -1,0 +1,138 @@
+-- Unplug and plug: from what their steps leave to what the model says of them, over plain values.
+-- Assumes nothing.
+use mathlib.Core.Path.{_≡_, refl, ap, sym, _∙_}
+use Prim.Native.Nat.{ℕ, zero, suc, _+_, _-_, _*_, _≤_, _<_}
+use native.Mathlib.Omega.{arith}
+use mathlib.Core.Bool.{Bool, true, false, _&&_}
+use mathlib.Core.List.{List, [], _∷_, _++_}
+use mathlib.Core.Option.{Option, none, some}
+use lib.ListN.{length, getD, take, drop, set, length-append}
+use lib.Dec.{eqb, ltb, lit≤}
+use lib.Seq.{take-all}
+use borrow.Author.Tests.{eq-eqb, ne-eqb, lt-ltb, le-ltb}
+use Rattle.model.specs.declared.Hardware.{Hardware}
+use Rattle.model.specs.Octets.{Octets, u16, le16, event, commandStatus}
+use Rattle.model.specs.State.{Controller, Hub, OpenCommand, PlainHub, controllerAt, hardwareOk, plugged, withController}
+use Rattle.model.specs.Hub.{Outcome, finished, badArgument, answerOf, octetsOf, stateOf, keep, owedTo, plugOut, underWay, unplugOut, unplugged}
+use Rattle.model.specs.Layout.{encode, decode}
+use Rattle.model.specs.Meanings.{laidOut, stateOk}
+use Rattle.model.specs.Proof.Demand3.{state-back}
+use Rattle.octets.specs.Parts.{part, length-part, writeAt}
+use Rattle.layout.specs.Places.{Ready, controllerOf, emptied, openAt, placeOf, presentAt, putController, ready}
+use Rattle.layout.specs.Reads.{absent-controller, present-controller}
+use Rattle.layout.specs.Open.{open-nothing, open-command}
+use Rattle.replies.specs.Answers.{Gives}
+use Rattle.replies.specs.declared.Answer.{Answer}
+use Rattle.replies.specs.declared.Answer.the-variants.{Done, BadArgument}
+use Rattle.replies.proofs.Laws.{gives-written, length-event, length-status, then}
+use Rattle.outcomes.specs.Outcomes.{ended}
+use Rattle.outcomes.specs.Endings.{ends-silent, ends-done}
+use Rattle.calls.specs.Given.{hardwareGiven}
+
+-- 1. Arguments that are wrong -------------------------------------------------------------------------------------------------------------------
+
+-- nothing is written, nothing changes
+pub bad-argument : (s d : Octets) (o : Outcome) (r : Answer) → stateOk s ≡ true → o ≡ badArgument → r ≡ BadArgument → Gives (ended s o) r d d s
+unfolding answerOf octetsOf stateOf
+bad-argument s d o r ok e n = rw (e, n) (ends-silent s d badArgument BadArgument ok refl refl refl refl)
+
+-- an event with no parameters
+pub event-bare : (d d′ : Octets) (at code i : ℕ) (src : Octets) → d′ ≡ writeAt d at (event code i (part src 0 0)) → d′ ≡ writeAt d at (event code i [])
+unfolding part
+event-bare d d′ at code i src w = w
+
+-- 2. Unplug -------------------------------------------------------------------------------------------------------------------------------------
+
+-- what unplug comes to at a state and an index
+abbrev unplugs : Octets → ℕ → Outcome
+unplugs s i = unplugOut (decode s .plain) i (controllerAt (decode s .plain) i)
+
+pub unplug-absent : (s : Octets) (i : ℕ) (d : Octets) (r : Answer) → stateOk s ≡ true → presentAt s i ≡ false → r ≡ BadArgument
+    → Gives (laidOut (unplugged (decode s) i (unplugOut (decode s .plain) i (controllerAt (decode s .plain) i)))) r d d s
+unfolding unplugOut unplugged ended
+unplug-absent s i d r ok e n = rw (absent-controller s i e) (bad-argument s d badArgument r ok refl n)
+
+module _ (s : Octets) (i : ℕ) (d d′ s′ : Octets) (r : Answer) (g : Ready s i) (big : 1024 ≤ length d) (gone : s′ ≡ encode (emptied (decode s) i)) where
+  -- with what is owed to a command under way
+  removed : (x : Option OpenCommand) (n : ℕ) → openAt s i ≡ x → length (owedTo i x ++ event 0x0005 i []) ≡ n → n ≤ 1024 → r ≡ Done n → d′ ≡ writeAt d 0 (owedTo i x ++ event 0x0005 i [])
+      → Gives (laidOut (unplugged (decode s) i (unplugOut (decode s .plain) i (controllerAt (decode s .plain) i)))) r d d′ s′
+  unfolding unplugOut unplugged laidOut emptied openAt underWay
+  removed x n e l f m w =
+      rw (present-controller s i g, e, m)
+      (gives-written (record { answer = 0; octets = owedTo i x ++ event 0x0005 i []; state = encode (emptied (decode s) i) }) (Done n) d d′ s′ refl (sym l) (omega arith) w gone)
+
+  pub unplug-quiet : (code : ℕ) → code ≡ u16 s (placeOf i 1) → code ≡ 0 → r ≡ Done 6 → d′ ≡ writeAt d 0 (event 0x0005 i [])
+      → Gives (laidOut (unplugged (decode s) i (unplugOut (decode s .plain) i (controllerAt (decode s .plain) i)))) r d d′ s′
+  unfolding owedTo
+  unplug-quiet code e z m w = removed none 6 (open-nothing s i g (sym e ∙ z)) (length-event 0x0005 i [] 0 refl) (lit≤ tt) m w
+
+  pub unplug-open : (code : ℕ) → code ≡ u16 s (placeOf i 1) → (code ≡ 0 → ⊥) → r ≡ Done 15 → (d₁ : Octets) → d₁ ≡ writeAt d 0 (commandStatus i code 0x11) → d′ ≡ writeAt d₁ 9 (event 0x0005 i [])
+      → Gives (laidOut (unplugged (decode s) i (unplugOut (decode s .plain) i (controllerAt (decode s .plain) i)))) r d d′ s′
+  unfolding owedTo
+  unplug-open code e z m d₁ w₁ w =
+      let a = length-status i code 0x11 in
+      let b = length-event 0x0005 i [] 0 refl in
+      let l : length (commandStatus i code 0x11 ++ event 0x0005 i []) ≡ 15 = rw (length-append, a, b) in
+      removed (some (record { code = u16 s (placeOf i 1); params = _ })) 15 (open-command s i g (λ q. z (e ∙ q))) (rw (← e) l) (lit≤ tt) m
+      (rw (← e) (w ∙ rw w₁ (then d 0 (commandStatus i code 0x11) (event 0x0005 i []) 9 (rw a))))
+
+-- 3. Plug ---------------------------------------------------------------------------------------------------------------------------------------
+
+plug-true : (p : PlainHub) (i : ℕ) (f : Hardware) → ltb i 4 ≡ true → hardwareOk f ≡ true → plugOut p i f none ≡ finished (event 0x0004 i []) (withController p i (some (plugged f)))
+unfolding plugOut
+plug-true p i f e h = rw (e, h, plugOut)
+
+plug-false : (p : PlainHub) (i : ℕ) (f : Hardware) → (ltb i 4 && hardwareOk f) ≡ false → plugOut p i f none ≡ badArgument
+unfolding plugOut
+plug-false p i f e = rw (e, plugOut)
+
+and-false : (a : Bool) → (a && false) ≡ false
+and-false true = refl
+and-false false = refl
+
+-- an address of another length
+not-six : (f : Hardware) → (length (f .publicAddress) ≡ 6 → ⊥) → hardwareOk f ≡ false
+unfolding hardwareOk
+not-six f e = rw (ne-eqb (length (f .publicAddress)) 6 e)
+
+module _ (s : Octets) (i : ℕ) (f : Hardware) (d : Octets) (r : Answer) (ok : stateOk s ≡ true) where
+  pub plug-present : presentAt s i ≡ true → r ≡ BadArgument → Gives (ended s (plugOut (decode s .plain) i f (controllerAt (decode s .plain) i))) r d d s
+  unfolding plugOut
+  plug-present e n = rw (present-controller s i (ready s i ok e)) (bad-argument s d badArgument r ok refl n)
+
+  module _ (gone : presentAt s i ≡ false) where
+    pub plug-above : 3 < i → r ≡ BadArgument → Gives (ended s (plugOut (decode s .plain) i f (controllerAt (decode s .plain) i))) r d d s
+    plug-above l n = rw (absent-controller s i gone) (bad-argument s d (plugOut (decode s .plain) i f none) r ok (plug-false (decode s .plain) i f (rw (le-ltb i 4 (omega arith)))) n)
+
+    pub plug-unfit : hardwareOk f ≡ false → r ≡ BadArgument → Gives (ended s (plugOut (decode s .plain) i f (controllerAt (decode s .plain) i))) r d d s
+    plug-unfit e n = rw (absent-controller s i gone) (bad-argument s d (plugOut (decode s .plain) i f none) r ok (plug-false (decode s .plain) i f (rw e (and-false (ltb i 4)))) n)
+
+    pub plug-short : (length (f .publicAddress) ≡ 6 → ⊥) → r ≡ BadArgument → Gives (ended s (plugOut (decode s .plain) i f (controllerAt (decode s .plain) i))) r d d s
+    plug-short e n = plug-unfit (not-six f e) n
+
+    pub plug-done : (d′ s′ : Octets) → 1024 ≤ length d → i ≤ 3 → hardwareOk f ≡ true → s′ ≡ encode (putController (decode s) i (plugged f)) → d′ ≡ writeAt d 0 (event 0x0004 i []) → r ≡ Done 6
+        → Gives (ended s (plugOut (decode s .plain) i f (controllerAt (decode s .plain) i))) r d d′ s′
+    unfolding putController
+    plug-done d′ s′ big l h k w n =
+        rw (absent-controller s i gone, plug-true (decode s .plain) i f (lt-ltb i 4 (omega arith)) h)
+        (ends-done s (event 0x0004 i []) (withController (decode s .plain) i (some (plugged f))) 6 d d′ s′ r n (length-event 0x0004 i [] 0 refl) (omega arith) w k)
+
+-- the hardware made of the arguments
+pub made-given : (address a : Octets) (v m n : ℕ) → length address ≡ 6 → a ≡ part address 0 6
+    → _≡_ {A = Hardware} (record { publicAddress = a; version = v; manufacturer = m; supported = n }) (hardwareGiven address v m n)
+unfolding hardwareGiven part
+made-given address a v m n l e =
+    let q : take 6 (drop 0 address) ≡ address = take-all 6 address (omega arith) in
+    rw (e, q)
+
+pub six-long : (address a : Octets) → length address ≡ 6 → a ≡ part address 0 6 → length a ≡ 6
+six-long address a l e = rw e (length-part address 0 6 (omega arith))
+
+-- the two ways on with the hardware that the code makes
+module _ (s : Octets) (i : ℕ) (f g : Hardware) (d : Octets) (r : Answer) (e : g ≡ f) (ok : stateOk s ≡ true) (gone : presentAt s i ≡ false) where
+  pub made-unfit : hardwareOk g ≡ false → r ≡ BadArgument → Gives (ended s (plugOut (decode s .plain) i f (controllerAt (decode s .plain) i))) r d d s
+  made-unfit h n = plug-unfit s i f d r ok gone (rw (← e) h) n
+
+  pub made-done : (d′ s′ : Octets) → 1024 ≤ length d → i ≤ 3 → hardwareOk g ≡ true → s′ ≡ encode (putController (decode s) i (plugged g)) → d′ ≡ writeAt d 0 (event 0x0004 i []) → r ≡ Done 6
+      → Gives (ended s (plugOut (decode s .plain) i f (controllerAt (decode s .plain) i))) r d d′ s′
+  made-done d′ s′ big l h k w n = plug-done s i f d r ok gone d′ s′ big l (rw (← e) h) (rw (← e) k) w n

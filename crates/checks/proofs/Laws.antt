@@ -1,0 +1,265 @@
+-- Laws that the proofs of this crate cite, over plain lists and numbers.
+use Prim.Native.Nat.{ℕ, zero, suc, _+_, _-_, _*_, _/_, _%_, _^_, _<_, _≤_}
+use native.Mathlib.Omega.{arith}
+use native.Mathlib.Nat.{add-zero, pow-suc, sub-zero}
+use native.Mathlib.Numerals.{add-one}
+use mathlib.Core.Path.{_≡_, refl, sym, _∙_}
+use mathlib.Core.Bool.{Bool, true, false, _&&_}
+use mathlib.Core.List.{[], _∷_}
+use mathlib.Core.Option.{none, some}
+use lib.ListN.{length, getD, take, drop, drop-of-length-le}
+use lib.Seq.{drop-cons, take-take}
+use lib.Bits.{bitOr, and-le-r, or-add-and, or-zero-l}
+use lib.Dec.{eqb, ltb}
+use borrow.Author.Tests.{eq-eqb, ne-eqb, eqb-true, eqb-false, le-leb, lt-leb, le-ltb, lt-ltb}
+use Rattle.model.specs.declared.Hardware.{Hardware}
+use Rattle.model.specs.declared.RadioSettings.{RadioSettings}
+use Rattle.model.specs.declared.Settings.{Settings}
+use Rattle.model.specs.Octets.{Octets, allZero, octet, u16, u32}
+use Rattle.model.specs.State.{nameEnds, settingsOf, shortNameEnds}
+use Rattle.model.specs.Reasons.{passes}
+use Rattle.model.specs.Tables.{TableRule, chop, distinct, empty, entries, every, recordsOk, supportOk, tableRules, uuidRule}
+use Rattle.model.specs.Image.{nameOk, radioOk}
+use Rattle.model.specs.Layout.{slotsBack}
+use Rattle.model.specs.Proof.Rows.{ruleAt}
+use Rattle.model.specs.Proof.Tests.{and-true, or-true}
+use Rattle.model.specs.Rules.{setConnectable, setDiscoverable, setLowEnergy, setPowered}
+use Rattle.layout.specs.Places.{base, controllerOf, placeOf, presentAt, sizes}
+use Rattle.layout.specs.Reads.{name-at}
+use Rattle.octets.specs.Parts.{getD-part, length-part, part, placeAt}
+use Rattle.octets.proofs.Laws.{part-suc}
+use Rattle.rules.specs.declared.Decision.{Decision}
+use Rattle.rules.specs.Decisions.{decision, isWait, settingsOk}
+use Rattle.checks.specs.Tests.{and-off, and-on}
+use Rattle.checks.specs.Settings.{flagsFine}
+use Rattle.checks.specs.Present.{blockAt, presentFine}
+use Rattle.checks.specs.Slots.{freeZero, zero-rest}
+use Rattle.checks.specs.Tables.{drop-part, tableFine, tablesFine, total}
+use Rattle.records.specs.Slots.{no-slots, recordsAt}
+use Rattle.table.specs.Slots.{tableAt}
+use Rattle.checks.specs.Open.{fine-connectable, fine-discoverable, fine-low-energy, fine-none, fine-other, fine-powered, fine-some, openFine, startedFine}
+
+pub ruleset tests = (eq-eqb, ne-eqb, le-leb, lt-leb, le-ltb, lt-ltb)
+
+-- 1. Zeros ------------------------------------------------------------------------------------------------------------------------------------
+
+-- two octets joined by or are zero if both are
+or-zero : (a b : ℕ) → eqb (bitOr a b) 0 ≡ eqb a 0 && eqb b 0
+or-zero a b = go (eqb a 0) refl
+  where
+    go : (x : Bool) → eqb a 0 ≡ x → eqb (bitOr a b) 0 ≡ x && eqb b 0
+    go true e = let z : a ≡ 0 = eqb-true a 0 e in rw (z, or-zero-l)
+    go false e =
+        let n = eqb-false a 0 e in
+        ne-eqb (bitOr a b) 0 (λ q. n (omega (arith, or-add-and a b, and-le-r a b)))
+
+zeros-suc : (s : Octets) (a n : ℕ) → a < length s → allZero (part s a (suc n)) ≡ eqb (getD s a 0) 0 && allZero (part s (a + 1) n)
+unfolding allZero
+zeros-suc s a n h = rw (part-suc s a n h)
+
+assoc : (a b c : Bool) → a && b && c ≡ a && (b && c)
+assoc true b c = refl
+assoc false b c = refl
+
+-- what is joined so far and what is left
+pub blank-turn : (s : Octets) (at n i joined : ℕ) → i < n → at + n ≤ length s
+    → eqb (bitOr joined (getD s (at + i) 0)) 0 && allZero (part s (at + (i + 1)) (n - (i + 1))) ≡ eqb joined 0 && allZero (part s (at + i) (n - i))
+blank-turn s at n i joined l h =
+    let e : n - i ≡ suc (n - (i + 1)) = omega arith in
+    let f : at + (i + 1) ≡ at + i + 1 = omega arith in
+    rw (e, f, or-zero joined (getD s (at + i) 0), zeros-suc s (at + i) (n - (i + 1)) (omega arith)) (assoc (eqb joined 0) (eqb (getD s (at + i) 0) 0) (allZero (part s (at + i + 1) (n - (i + 1)))))
+
+pub blank-first : (s : Octets) (at n : ℕ) → allZero (part s (at + 0) (n - 0)) ≡ allZero (part s at n)
+blank-first s at n = rw (add-zero, sub-zero)
+
+pub blank-last : (s : Octets) (at n i joined : ℕ) → n ≤ i → eqb joined 0 ≡ eqb joined 0 && allZero (part s (at + i) (n - i))
+unfolding allZero part
+blank-last s at n i joined l = let e : n - i ≡ 0 = omega arith in rw e (sym (and-on (eqb joined 0)))
+
+-- 2. Places -----------------------------------------------------------------------------------------------------------------------------------
+
+pub place-one : (i : ℕ) → placeOf i 1 ≡ base i + 1
+unfolding placeOf placeAt sizes
+place-one i = refl
+
+pub place-name : (i : ℕ) → placeOf i 4 ≡ base i + 32
+unfolding placeOf placeAt sizes
+place-name i = refl
+
+-- the names' last octets, where they lie
+pub name-is : (s : Octets) (i at : ℕ) → at ≡ placeOf i 4 → nameOk (controllerOf s i .host .name) ≡ eqb (getD s (at + 248) 0) 0 && eqb (getD s (at + 259) 0) 0
+unfolding nameOk nameEnds shortNameEnds octet
+name-is s i at e = rw (e, ← name-at s i, getD-part s (placeOf i 4) 260 248 (omega arith), getD-part s (placeOf i 4) 260 259 (omega arith))
+
+-- 3. The open command -------------------------------------------------------------------------------------------------------------------------
+
+-- nothing under way
+pub opens-none : (x : RadioSettings) (s : Octets) (at code : ℕ) → code ≡ u16 s at → code ≡ 0 → allZero (part s (at + 2) 3) ≡ openFine x (u16 s at) (part s (at + 2) 3)
+opens-none x s at code e z = sym (fine-none x (u16 s at) (part s (at + 2) 3) (sym e ∙ z))
+
+module _ (x : RadioSettings) (s : Octets) (at code : ℕ) (e : code ≡ u16 s at) (n : code ≡ 0 → ⊥) (h : at + 5 ≤ length s) where
+  three : length (part s (at + 2) 3) ≡ 3
+  three = length-part s (at + 2) 3 (omega arith)
+
+  -- the parameters as they are lent
+  all-lent : take (at + 5 - (at + 2)) (drop (at + 2) s) ≡ part s (at + 2) 3
+  unfolding part
+  all-lent = let q : at + 5 - (at + 2) ≡ 3 = omega arith in rw q
+
+  first-lent : take (at + 3 - (at + 2)) (drop (at + 2) s) ≡ take 1 (part s (at + 2) 3)
+  unfolding part
+  first-lent = let q : at + 3 - (at + 2) ≡ 1 = omega arith in rw q (sym (take-take 1 3 (drop (at + 2) s) (omega arith)))
+
+  rest : drop 1 (part s (at + 2) 3) ≡ part s (at + 3) 2
+  rest = let q : at + 2 + 1 ≡ at + 3 = omega arith in drop-part s (at + 2) 1 2 ∙ rw q
+
+  fine : startedFine x code (part s (at + 2) 3) ≡ openFine x (u16 s at) (part s (at + 2) 3)
+  fine = rw (← e) (sym (fine-some x code (part s (at + 2) 3) n))
+
+  pub opens-discoverable : code ≡ 6 → (d : Decision) → d ≡ decision setDiscoverable x (take (at + 5 - (at + 2)) (drop (at + 2) s)) → isWait d ≡ openFine x (u16 s at) (part s (at + 2) 3)
+  opens-discoverable q d f = rw (f, all-lent) (sym (fine-discoverable x (part s (at + 2) 3) three code q) ∙ fine)
+
+  -- one parameter octet, and zeros behind it
+  module _ (z : allZero (part s (at + 3) 2) ≡ true) where
+    pub opens-powered : code ≡ 5 → (d : Decision) → d ≡ decision setPowered x (take (at + 3 - (at + 2)) (drop (at + 2) s)) → isWait d ≡ openFine x (u16 s at) (part s (at + 2) 3)
+    opens-powered q d f = rw (f, first-lent) (sym (fine-powered x (part s (at + 2) 3) three code q ∙ rw (rest, z) (and-on (isWait (decision setPowered x (take 1 (part s (at + 2) 3)))))) ∙ fine)
+
+    pub opens-connectable : code ≡ 7 → (d : Decision) → d ≡ decision setConnectable x (take (at + 3 - (at + 2)) (drop (at + 2) s)) → isWait d ≡ openFine x (u16 s at) (part s (at + 2) 3)
+    opens-connectable q d f = rw (f, first-lent) (sym (fine-connectable x (part s (at + 2) 3) three code q ∙ rw (rest, z) (and-on (isWait (decision setConnectable x (take 1 (part s (at + 2) 3)))))) ∙ fine)
+
+    pub opens-low-energy : code ≡ 13 → (d : Decision) → d ≡ decision setLowEnergy x (take (at + 3 - (at + 2)) (drop (at + 2) s)) → isWait d ≡ openFine x (u16 s at) (part s (at + 2) 3)
+    opens-low-energy q d f = rw (f, first-lent) (sym (fine-low-energy x (part s (at + 2) 3) three code q ∙ rw (rest, z) (and-on (isWait (decision setLowEnergy x (take 1 (part s (at + 2) 3)))))) ∙ fine)
+
+  -- no other command waits
+  pub opens-other : (code ≡ 6 → ⊥) → (code ≡ 5 → ⊥) → (code ≡ 7 → ⊥) → (code ≡ 13 → ⊥) → false ≡ openFine x (u16 s at) (part s (at + 2) 3)
+  opens-other a b c d = sym (fine-other x (part s (at + 2) 3) code b a c d) ∙ fine
+
+  -- and none of one parameter octet has others behind it
+  pub opens-more : (code ≡ 6 → ⊥) → allZero (part s (at + 3) 2) ≡ false → false ≡ openFine x (u16 s at) (part s (at + 2) 3)
+  opens-more a z = five (eqb code 5) refl
+    where
+      thirteen : (y : Bool) → eqb code 13 ≡ y → (code ≡ 5 → ⊥) → (code ≡ 7 → ⊥) → false ≡ openFine x (u16 s at) (part s (at + 2) 3)
+      thirteen true q b c = sym (fine-low-energy x (part s (at + 2) 3) three code (eqb-true code 13 q) ∙ rw (rest, z) (and-off (isWait (decision setLowEnergy x (take 1 (part s (at + 2) 3)))))) ∙ fine
+      thirteen false q b c = opens-other a b c (eqb-false code 13 q)
+
+      seven : (y : Bool) → eqb code 7 ≡ y → (code ≡ 5 → ⊥) → false ≡ openFine x (u16 s at) (part s (at + 2) 3)
+      seven true q b = sym (fine-connectable x (part s (at + 2) 3) three code (eqb-true code 7 q) ∙ rw (rest, z) (and-off (isWait (decision setConnectable x (take 1 (part s (at + 2) 3)))))) ∙ fine
+      seven false q b = thirteen (eqb code 13) refl b (eqb-false code 7 q)
+
+      five : (y : Bool) → eqb code 5 ≡ y → false ≡ openFine x (u16 s at) (part s (at + 2) 3)
+      five true q = sym (fine-powered x (part s (at + 2) 3) three code (eqb-true code 5 q) ∙ rw (rest, z) (and-off (isWait (decision setPowered x (take 1 (part s (at + 2) 3)))))) ∙ fine
+      five false q = seven (eqb code 7) refl (eqb-false code 5 q)
+
+-- 4. Tables -----------------------------------------------------------------------------------------------------------------------------------
+
+-- where the word is zero, all slots that are left are free
+pub zero-rest-of : (s : Octets) (size at n w : ℕ) → w ≡ 0 → allZero (part s at (size * n)) ≡ freeZero s size at n w
+zero-rest-of s size at n w e = rw e (zero-rest s size at n)
+
+-- a word that is not zero marks a slot as used
+odd-one : (w : ℕ) → (w ≡ 0 → ⊥) → w / 2 ≡ 0 → w % 2 ≡ 1
+odd-one zero z q = absurd (z refl)
+odd-one (suc zero) z q = refl
+odd-one (suc (suc w)) z q = absurd (omega arith)
+
+some-used : (size n w : ℕ) (o : Octets) → (w ≡ 0 → ⊥) → w < 2 ^ n → empty (entries (slotsBack w (chop size n o))) ≡ false
+unfolding empty entries slotsBack chop
+some-used size zero w o z l = absurd (z (omega arith))
+some-used size (suc n) w o z l =
+    let m : w < 2 ^ n * 2 = rw pow-suc at l in
+    go (eqb (w % 2) 1) refl (λ y. some-used size n (w / 2) (drop size o) y (omega arith))
+  where
+    go : (b : Bool) → eqb (w % 2) 1 ≡ b → ((w / 2 ≡ 0 → ⊥) → empty (entries (slotsBack (w / 2) (chop size n (drop size o)))) ≡ false)
+        → empty (entries (elim b [ true ↦ some (take size o) | false ↦ none ] ∷ slotsBack (w / 2) (chop size n (drop size o)))) ≡ false
+    go true e i = refl
+    go false e i = let d = eqb-false (w % 2) 1 e in i (λ q. d (odd-one w z q))
+
+module _ (u : TableRule) (f : Hardware) (s : Octets) (at size w : ℕ) (e : size ≡ u .size) (q : w ≡ u32 s at) where
+  -- the records of the table that lies there
+  records-are : entries (tableAt s at (u .size)) ≡ recordsAt s (u .size) (at + 4) 32 w
+  unfolding tableAt
+  records-are = rw q
+
+  -- a free slot is not zero
+  pub table-spoilt : freeZero s size (at + 4) 32 w ≡ false → false ≡ tableFine u f s at
+  unfolding tableFine
+  table-spoilt z = let y : freeZero s (u .size) (at + 4) 32 (u32 s at) ≡ false = rw (e, q) at z in
+      sym (rw (y, and-off (supportOk u f (entries (tableAt s at (u .size)))), and-off (recordsOk u (entries (tableAt s at (u .size))))))
+
+  -- no slot is in use
+  pub table-empty : w ≡ 0 → freeZero s size (at + 4) 32 w ≡ true → true ≡ tableFine u f s at
+  unfolding tableFine recordsOk supportOk every distinct empty
+  table-empty v z =
+      let y : freeZero s (u .size) (at + 4) 32 (u32 s at) ≡ true = rw (e, q) at z in
+      let r : recordsAt s (u .size) (at + 4) 32 w ≡ [] = rw v (no-slots (u .size) 32 (drop (at + 4) s)) in
+      sym (rw (records-are, r, y))
+
+  -- its records need support that there is not
+  pub table-unsupported : (w ≡ 0 → ⊥) → w < 4294967296 → passes (u .support f) ≡ false → false ≡ tableFine u f s at
+  unfolding tableFine supportOk
+  table-unsupported v l p =
+      let r : empty (recordsAt s (u .size) (at + 4) 32 w) ≡ false = some-used (u .size) 32 w (drop (at + 4) s) v l in
+      sym (rw (records-are, r, p) (and-off (recordsOk u (recordsAt s (u .size) (at + 4) 32 w))))
+
+  -- else its records tell
+  pub table-told : freeZero s size (at + 4) 32 w ≡ true → passes (u .support f) ≡ true → recordsOk u (recordsAt s (u .size) (at + 4) 32 w) ≡ tableFine u f s at
+  unfolding tableFine supportOk
+  table-told z p =
+      let y : freeZero s (u .size) (at + 4) 32 (u32 s at) ≡ true = rw (e, q) at z in
+      sym (rw (records-are, p, y, or-true (empty (recordsAt s (u .size) (at + 4) 32 w))) (and-on (recordsOk u (recordsAt s (u .size) (at + 4) 32 w))))
+
+rules-six : length tableRules ≡ 6
+unfolding tableRules
+rules-six = refl
+
+-- the rule of table k, and those of the tables behind it
+rules-from : (k : ℕ) → k < 6 → drop k tableRules ≡ ruleAt k ∷ drop (k + 1) tableRules
+unfolding ruleAt
+rules-from k l = rw add-one (drop-cons tableRules k uuidRule (rw rules-six l))
+
+-- table k and those behind it
+module _ (s : Octets) (at k : ℕ) (l : k < 6) where
+  pub tables-room : (end : ℕ) → at + total (drop k tableRules) ≤ end → at + (4 + ruleAt k .size * 32) + total (drop (k + 1) tableRules) ≤ end
+  unfolding total
+  tables-room end h = let g : at + total (ruleAt k ∷ drop (k + 1) tableRules) ≤ end = rw (rules-from k l) at h in omega arith
+
+  next : (f : Hardware) → tablesFine f (drop k tableRules) s at ≡ tableFine (ruleAt k) f s at && tablesFine f (drop (k + 1) tableRules) s (at + (4 + ruleAt k .size * 32))
+  unfolding tablesFine
+  next f = rw (rules-from k l)
+
+  pub tables-turn : (f : Hardware) → tableFine (ruleAt k) f s at ≡ true → tablesFine f (drop (k + 1) tableRules) s (at + (4 + ruleAt k .size * 32)) ≡ tablesFine f (drop k tableRules) s at
+  tables-turn f e = sym (next f ∙ rw e)
+
+  pub tables-fails : (f : Hardware) → tableFine (ruleAt k) f s at ≡ false → false ≡ tablesFine f (drop k tableRules) s at
+  tables-fails f e = sym (next f ∙ rw e)
+
+pub tables-end : (f : Hardware) (s : Octets) (at k : ℕ) → 6 ≤ k → true ≡ tablesFine f (drop k tableRules) s at
+unfolding tablesFine
+tables-end f s at k h = let e : drop k tableRules ≡ [] = drop-of-length-le tableRules {i = k} (rw rules-six h) in sym (rw e)
+
+-- 5. Blocks -----------------------------------------------------------------------------------------------------------------------------------
+
+-- the test of a present block, from its place and its settings
+pub fine-by : (s : Octets) (i b : ℕ) (m : Settings) → b ≡ base i → m ≡ settingsOf (controllerOf s i)
+    → presentFine s i
+    ≡ radioOk (m .radio)
+    && (settingsOk m
+    && (nameOk (controllerOf s i .host .name)
+    && (flagsFine s b
+    && (openFine (m .radio) (u16 s (b + 1)) (part s (b + 1 + 2) 3)
+    && tablesFine (m .radio .hardware) tableRules s (b + 292)))))
+unfolding presentFine settingsOf
+fine-by s i b m e f = rw (e, f)
+
+-- the first octet of a block says whether a controller is there
+pub present-one : (s : Octets) (i : ℕ) → presentAt s i ≡ true → getD s (base i) 0 ≡ 1
+unfolding presentAt
+present-one s i e = eqb-true (getD s (base i) 0) 1 (and-true (ltb i 4) _ e .1)
+
+pub absent-other : (s : Octets) (i : ℕ) → i < 4 → presentAt s i ≡ false → getD s (base i) 0 ≡ 1 → ⊥
+unfolding presentAt
+absent-other s i l e = eqb-false (getD s (base i) 0) 1 (rw (lt-ltb i 4 l) at e)
+
+-- zeros from the place of the block on
+pub blank-block : (s : Octets) (i b : ℕ) → b ≡ base i → allZero (part s b 4028) ≡ allZero (blockAt s i)
+blank-block s i b e = rw e

@@ -1,0 +1,225 @@
+// Whether lent octets are a well-formed state: for any octets of any length, the model's own test.
+ghost use mathlib.Core.Path.{_≡_};
+ghost use Prim.Native.Nat.{_+_, _*_, _≤_, _<_};
+ghost use lib.ListN.{length};
+ghost use Rattle.model.specs.declared.Hardware.{Hardware};
+ghost use Rattle.model.specs.Octets.{allZero, u16};
+ghost use Rattle.model.specs.Tables.{tableRules};
+ghost use Rattle.model.specs.Image.{nameOk};
+ghost use Rattle.model.specs.Meanings.{stateOk};
+ghost use Rattle.model.specs.Proof.Rows.{ruleAt};
+ghost use Rattle.octets.specs.Parts.{part};
+ghost use Rattle.layout.specs.Places.{base, controllerOf};
+ghost use Rattle.rules.specs.Decisions.{isWait};
+ghost use Rattle.checks.specs.Blocks.{blockOk};
+ghost use Rattle.checks.specs.Open.{openFine};
+ghost use Rattle.checks.specs.Present.{blockAt, presentFine};
+ghost use Rattle.checks.specs.Settings.{flagsFine};
+ghost use Rattle.checks.specs.Slots.{freeZero};
+ghost use Rattle.checks.specs.Tables.{tableFine, tablesFine};
+use model::RadioSettings;
+use rules::Decision;
+
+// Whether the n octets from a place on are zero. They nearly always are, so they are joined by or, with no test before the end.
+fn blank(s: &[u8], at: usize, n: usize) -> bool
+    requires { ⌜ at + n ≤ length (now s) ⌝ }
+    ensures { λ r. ⌜ r ≡ allZero (part (now (s .entry)) at n) ⌝ }
+{
+    let mut joined: u8 = 0;
+    let mut i: usize = 0;
+    while i < n {
+        joined = joined | s[at + i];
+        i += 1;
+    }
+    joined == 0
+}
+
+// Tables
+
+// Whether of n slots from a place on the free ones are zero: slot j is in use if bit j of the word is set.
+fn free_zero(s: &[u8], size: usize, place: usize, n: usize, w: u64) -> bool
+    requires { ⌜ place + size * n ≤ length (now s) ⌝ }
+    ensures { λ r. ⌜ r ≡ freeZero (now (s .entry)) size place n w ⌝ }
+{
+    let mut at = place;
+    let mut left = n;
+    let mut word = w;
+    while 0 < left {
+        if word == 0 {
+            return blank(s, at, size * left);
+        }
+        if word % 2 != 1 {
+            if !blank(s, at, size) {
+                return false;
+            }
+        }
+        at = at + size;
+        left = left - 1;
+        word = word / 2;
+    }
+    true
+}
+
+// Whether the table k that lies at a place is well formed and its free slots are zero, of a controller with these supported settings.
+fn table_ok(s: &[u8], at: usize, k: usize, supported: u32) -> bool
+    requires { ⌜ (k < 6) × (at + (4 + ruleAt k .size * 32) ≤ length (now s)) ⌝ }
+    ensures { λ r. ⌜ ((f : Hardware) → f .supported ≡ supported → r ≡ tableFine (ruleAt k) f (now (s .entry)) at) ⌝ }
+{
+    let size = records::size_of(k);
+    let w = octets::u32_at(s, at);
+    if free_zero(s, size, at + 4, 32, w) {
+        if w == 0 {
+            return true;
+        }
+        if records::supports(k, supported) {
+            return records::keeps_rule(k, s, at + 4, 32, w);
+        }
+    }
+    false
+}
+
+// Whether the six tables that lie from a place on are so.
+fn tables_ok(s: &[u8], place: usize, supported: u32) -> bool
+    requires { ⌜ place + 3736 ≤ length (now s) ⌝ }
+    ensures { λ r. ⌜ ((f : Hardware) → f .supported ≡ supported → r ≡ tablesFine f tableRules (now (s .entry)) place) ⌝ }
+{
+    let mut at = place;
+    let mut k: usize = 0;
+    while k < 6 {
+        if !table_ok(s, at, k, supported) {
+            return false;
+        }
+        at = at + (4 + records::size_of(k) * 32);
+        k += 1;
+    }
+    true
+}
+
+// The open command
+
+// Whether a decision is to wait for the radio.
+fn waits(d: Decision) -> bool
+    ensures { λ r. ⌜ r ≡ isWait d ⌝ }
+{
+    match d {
+        Decision::Refuse(_) => false,
+        Decision::Reject(_) => false,
+        Decision::Wait => true,
+        Decision::Act => false,
+    }
+}
+
+// Whether nothing is under way and all is zero, or a command that would be started on these radio settings, with zeros behind its parameters.
+fn open_ok(s: &[u8], at: usize, r: RadioSettings) -> bool
+    requires { ⌜ at + 5 ≤ length (now s) ⌝ }
+    ensures { λ q. ⌜ q ≡ openFine r (u16 (now (s .entry)) at) (part (now (s .entry)) (at + 2) 3) ⌝ }
+{
+    let code = octets::u16_at(s, at);
+    if code == 0 {
+        return octets::zero_part(s, at + 2, 3);
+    }
+    if code == 6 {
+        return waits(rules::decide_discoverable(r, &s[at + 2..at + 5]));
+    }
+    if octets::zero_part(s, at + 3, 2) {
+        if code == 5 {
+            return waits(rules::decide_powered(r, &s[at + 2..at + 3]));
+        }
+        if code == 7 {
+            return waits(rules::decide_connectable(r, &s[at + 2..at + 3]));
+        }
+        if code == 13 {
+            return waits(rules::decide_low_energy(r, &s[at + 2..at + 3]));
+        }
+    }
+    false
+}
+
+// Blocks
+
+// Where block i begins.
+fn block_place(i: u64) -> usize
+    requires { ⌜ i < 4 ⌝ }
+    ensures { λ r. ⌜ r ≡ base i ⌝ }
+{
+    layout::open_place(i) - 1
+}
+
+// Whether each of the five flags of the block that begins at b is 0 or 1.
+fn flags_ok(s: &[u8], b: usize) -> bool
+    requires { ⌜ b + 32 ≤ length (now s) ⌝ }
+    ensures { λ r. ⌜ r ≡ flagsFine (now (s .entry)) b ⌝ }
+{
+    if s[b + 19] <= 1 {
+        if s[b + 20] <= 1 {
+            if s[b + 21] <= 1 {
+                if s[b + 22] <= 1 {
+                    return s[b + 23] <= 1;
+                }
+            }
+        }
+    }
+    false
+}
+
+// Whether name and short name of index i end in a zero.
+fn name_ok(s: &[u8], i: u64) -> bool
+    requires { ⌜ (length (now s) ≡ 16116) × (i < 4) ⌝ }
+    ensures { λ r. ⌜ r ≡ nameOk (controllerOf (now (s .entry)) i .host .name) ⌝ }
+{
+    let at = layout::name_place(i);
+    if s[at + 248] == 0 {
+        return s[at + 259] == 0;
+    }
+    false
+}
+
+// Whether the block of index i, which has a controller, is well formed.
+fn controller_ok(s: &[u8], i: u64) -> bool
+    requires { ⌜ (length (now s) ≡ 16116) × (i < 4) ⌝ }
+    ensures { λ r. ⌜ r ≡ presentFine (now (s .entry)) i ⌝ }
+{
+    let b = block_place(i);
+    let m = layout::settings_at(s, i);
+    let r = m.radio;
+    let f = r.hardware;
+    if rules::radio_ok(r) {
+        if rules::settings_fit(m) {
+            if name_ok(s, i) {
+                if flags_ok(s, b) {
+                    if open_ok(s, b + 1, r) {
+                        return tables_ok(s, b + 292, f.supported);
+                    }
+                }
+            }
+        }
+    }
+    false
+}
+
+// Whether block i is well formed: a controller's, or all zero.
+fn block_ok(s: &[u8], i: u64) -> bool
+    requires { ⌜ (length (now s) ≡ 16116) × (i < 4) ⌝ }
+    ensures { λ r. ⌜ r ≡ blockOk (blockAt (now (s .entry)) i) ⌝ }
+{
+    if layout::present(s, i) {
+        return controller_ok(s, i);
+    }
+    blank(s, block_place(i), 4028)
+}
+
+// Whether lent octets are a well-formed state.
+pub fn well_formed(state: &[u8]) -> bool
+    ensures { λ r. ⌜ r ≡ stateOk (now (state .entry)) ⌝ }
+{
+    if state.len() == 16116 {
+        if block_ok(state, 0) {
+            if block_ok(state, 1) {
+                if block_ok(state, 2) {
+                    return block_ok(state, 3);
+                }
+            }
+        }
+    }
+    false
+}

@@ -1,0 +1,355 @@
+-- From what the steps of a report leave to what the model says of it, over plain values.
+-- Assumes nothing.
+use mathlib.Core.Path.{_≡_, refl, ap, sym, _∙_}
+use Prim.Native.Nat.{ℕ, zero, suc, _+_, _≤_, _<_}
+use native.Mathlib.Omega.{arith}
+use mathlib.Core.Bool.{Bool, true, false}
+use mathlib.Core.List.{List, [], _∷_, _++_}
+use mathlib.Core.Option.{Option, none, some}
+use lib.ListN.{length, getD}
+use lib.Dec.{eqb, ltb}
+use borrow.Author.Tests.{ne-eqb, lt-ltb, le-ltb, ltb-true, ltb-false}
+use Rattle.model.specs.declared.Settings.{Settings}
+use Rattle.model.specs.declared.RadioSettings.{RadioSettings}
+use Rattle.model.specs.Octets.{Octets, u16, le32, commandComplete, commandStatus}
+use Rattle.model.specs.State.{Controller, Hub, OpenCommand, PlainHub, controllerAt, currentSettings, settingsOf}
+use Rattle.model.specs.Reasons.{passes}
+use Rattle.model.specs.Rules.{Rule, general, immediate, radio, ImmediateRule, RadioRule, newSettings, setLowEnergy, setStaticAddress}
+use Rattle.model.specs.Commands.{Row, rows, find, rule}
+use Rattle.model.specs.Hub.{badArgument, keep, withOpen, answerOf, octetsOf, stateOf, acted, finish, finishBy, starts, startsBy, reportOut}
+use Rattle.model.specs.WellFormed.{openOk}
+use Rattle.model.specs.Layout.{encode, decode, opensIn, sizeOf}
+use Rattle.model.specs.Meanings.{stateOk, laidOut}
+use Rattle.model.specs.Proof.Tests.{and-true, equal, no-way}
+use Rattle.octets.specs.Parts.{part, placeAt, writeAt}
+use Rattle.layout.specs.Places.{Ready, controllerOf, openAt, placeOf, presentAt, putController, sizes}
+use Rattle.layout.specs.Reads.{absent-open, present-controller}
+use Rattle.layout.specs.Open.{open-nothing, open-command}
+use Rattle.layout.specs.Kept.{open-fine, opened-ready, opened-controller, opened-decoded}
+use Rattle.replies.specs.Answers.{Gives}
+use Rattle.replies.specs.Frames.{settingsReply}
+use Rattle.replies.specs.declared.Answer.{Answer}
+use Rattle.replies.specs.declared.Answer.the-variants.{Done, BadArgument}
+use Rattle.replies.proofs.Laws.{gives-written, settings-short, length-status}
+use Rattle.rules.specs.Effects.{withSettings, settingsEffect, OnlySettings}
+use Rattle.rules.proofs.Ties.{powered-only, discoverable-only, connectable-only, low-energy-only}
+use Rattle.outcomes.specs.Outcomes.{ended, reported}
+use Rattle.outcomes.specs.Endings.{ends-silent}
+use Rattle.settings.specs.Opens.{Opens, opens-powered, opens-discoverable, opens-connectable, opens-low-energy, Makes}
+use Rattle.settings.proofs.Bridge.{reply-is}
+
+-- 1. Which command can be under way ---------------------------------------------------------------------------------------------------------------
+
+-- the rule of a command under way
+pub record Opened (code : ℕ) (x : Rule) : Type 0 where
+  pub by : RadioRule
+  pub kind : x ≡ radio by
+  pub opens : Opens code by
+
+-- what is asked of each row: if its command would be started, it is one of the four
+abbrev Held : ℕ → Rule → Type 0
+Held code x = (r : RadioSettings) (ps : Octets) → startsBy r ps (some x) ≡ true → Opened code x
+
+held-general : (code : ℕ) (f : PlainHub → Octets) → Held code (general f)
+unfolding startsBy
+held-general code f r ps e = no-way (sym e)
+
+held-immediate : (code : ℕ) (q : ImmediateRule) → Held code (immediate q)
+unfolding startsBy
+held-immediate code q r ps e = no-way (sym e)
+
+held-radio : (code : ℕ) (u : RadioRule) → Opens code u → Held code (radio u)
+held-radio code u o r ps e = record { by = u; kind = refl; opens = o }
+
+held-static : Held 0x002B (radio setStaticAddress)
+unfolding startsBy setStaticAddress
+held-static r ps e =
+    let a = and-true (eqb (length ps) (setStaticAddress .size)) _ e in
+    let b = and-true (passes (setStaticAddress .beforeBusy r ps)) _ (a .1) in
+    let d = and-true (passes (setStaticAddress .afterBusy r ps)) _ (b .1) in
+    no-way (sym (d .1))
+
+unfoldable AllHeld : List Row → Type 0
+AllHeld [] = Unit {0}
+AllHeld (x ∷ xs) = Held (x .0) (x .1) × AllHeld xs
+
+all-held : AllHeld rows
+unfolding AllHeld rows
+all-held = (
+  held-general _ _,
+  (
+    held-general _ _,
+    (
+      held-general _ _,
+      (
+        held-immediate _ _,
+        (
+          held-radio _ _ opens-powered,
+          (
+            held-radio _ _ opens-discoverable,
+            (
+              held-radio _ _ opens-connectable,
+              (
+                held-immediate _ _,
+                (
+                  held-radio _ _ opens-low-energy,
+                  (
+                    held-immediate _ _,
+                    (
+                      held-immediate _ _,
+                      (
+                        held-immediate _ _,
+                        (
+                          held-immediate _ _,
+                          (
+                            held-immediate _ _,
+                            (
+                              held-immediate _ _,
+                              (
+                                held-immediate _ _,
+                                (
+                                  held-immediate _ _,
+                                  (
+                                    held-static,
+                                    (
+                                      held-immediate _ _,
+                                      (
+                                        held-immediate _ _,
+                                        (held-immediate _ _, tt),
+                                      ),
+                                    ),
+                                  ),
+                                ),
+                              ),
+                            ),
+                          ),
+                        ),
+                      ),
+                    ),
+                  ),
+                ),
+              ),
+            ),
+          ),
+        ),
+      ),
+    ),
+  ),
+)
+
+found : (code : ℕ) (xs : List Row) (x : Rule) → AllHeld xs → find code xs ≡ some x → Held code x
+unfolding find AllHeld
+found code [] x a e = let z : _≡_ {A = ℕ} 0 1 = cc in absurd (omega arith)
+found code (y ∷ ys) x a e = go (eqb (y .0) code) refl e (found code ys x (a .1))
+  where
+    go : (b : Bool) → eqb (y .0) code ≡ b → _≡_ {A = Option Rule} (elim b [ true ↦ some (y .1) | false ↦ find code ys ]) (some x) → (find code ys ≡ some x → Held code x) → Held code x
+    go true t f more = let p : y .1 ≡ x = cc in let q : y .0 ≡ code = equal (y .0) code t in rw (p, q) at (a .0)
+    go false t f more = more f
+
+-- the rule of a command that would be started
+pub record Waiting (code : ℕ) : Type 0 where
+  pub by : RadioRule
+  pub known : rule code ≡ some (radio by)
+  pub opens : Opens code by
+
+waiting-by : (r : RadioSettings) (code : ℕ) (ps : Octets) (x : Option Rule) → rule code ≡ x → startsBy r ps x ≡ true → Waiting code
+unfolding startsBy rule
+waiting-by r code ps none e s = no-way (sym s)
+waiting-by r code ps (some x) e s =
+    let h : Opened code x = found code rows x all-held e r ps s in
+    record { by = h .by; known = e ∙ ap {B = Option Rule} (λ y. some y) (h .kind); opens = h .opens }
+
+-- a command under way is one of the four
+waiting : (s : Octets) (i : ℕ) → Ready s i → (o : OpenCommand) → openAt s i ≡ some o → Waiting (o .code)
+unfolding openOk starts
+waiting s i g o e =
+    let a : openOk (some (controllerOf s i)) (some o) ≡ true = rw e at (open-fine s i g) in
+    waiting-by (controllerOf s i .radio) (o .code) (o .params) (rule (o .code)) refl (and-true (starts (controllerOf s i .radio) o) _ a .0)
+
+-- it changes the settings alone
+opens-only : (code : ℕ) (u : RadioRule) (c : Controller) (ps : Octets) → Opens code u → OnlySettings u c ps
+opens-only code u c ps opens-powered = powered-only c ps
+opens-only code u c ps opens-discoverable = discoverable-only c ps
+opens-only code u c ps opens-connectable = connectable-only c ps
+opens-only code u c ps opens-low-energy = low-energy-only c ps
+
+-- 2. What it makes of the settings ----------------------------------------------------------------------------------------------------------------
+
+-- one code has one rule
+opens-one : (j k : ℕ) (u w : RadioRule) → Opens j u → Opens k w → j ≡ k → w ≡ u
+opens-one j k u w opens-powered opens-powered e = refl
+opens-one j k u w opens-powered opens-discoverable e = absurd (omega arith)
+opens-one j k u w opens-powered opens-connectable e = absurd (omega arith)
+opens-one j k u w opens-powered opens-low-energy e = absurd (omega arith)
+opens-one j k u w opens-discoverable opens-powered e = absurd (omega arith)
+opens-one j k u w opens-discoverable opens-discoverable e = refl
+opens-one j k u w opens-discoverable opens-connectable e = absurd (omega arith)
+opens-one j k u w opens-discoverable opens-low-energy e = absurd (omega arith)
+opens-one j k u w opens-connectable opens-powered e = absurd (omega arith)
+opens-one j k u w opens-connectable opens-discoverable e = absurd (omega arith)
+opens-one j k u w opens-connectable opens-connectable e = refl
+opens-one j k u w opens-connectable opens-low-energy e = absurd (omega arith)
+opens-one j k u w opens-low-energy opens-powered e = absurd (omega arith)
+opens-one j k u w opens-low-energy opens-discoverable e = absurd (omega arith)
+opens-one j k u w opens-low-energy opens-connectable e = absurd (omega arith)
+opens-one j k u w opens-low-energy opens-low-energy e = refl
+
+-- the effect of the rule of one of the codes, on parameters lent from the state
+pub makes-by : (code k : ℕ) (s : Octets) (at n : ℕ) (old new : Settings) (u : RadioRule) (ps : Octets) → Opens k u → code ≡ k → n ≡ u .size → ps ≡ part s at n
+    → new ≡ settingsEffect u old ps → Makes code s at old new
+makes-by code k s at n old new u ps o e z l m w p = rw (opens-one k code u w o p (sym e)) (m ∙ rw (l, z))
+
+-- the last of the four codes
+pub makes-last : (code : ℕ) (s : Octets) (at n : ℕ) (old new : Settings) (ps : Octets) → (code ≡ 0x0005 → ⊥) → (code ≡ 0x0006 → ⊥) → (code ≡ 0x0007 → ⊥) → n ≡ setLowEnergy .size
+    → ps ≡ part s at n → new ≡ settingsEffect setLowEnergy old ps → Makes code s at old new
+makes-last code s at n old new ps a b d z l m w p = go code w p a b d
+  where
+    go : (j : ℕ) (v : RadioRule) → Opens j v → (j ≡ 0x0005 → ⊥) → (j ≡ 0x0006 → ⊥) → (j ≡ 0x0007 → ⊥) → new ≡ settingsEffect v old (part s at (v .size))
+    go j v opens-powered x y q = absurd (x refl)
+    go j v opens-discoverable x y q = absurd (y refl)
+    go j v opens-connectable x y q = absurd (q refl)
+    go j v opens-low-energy x y q = m ∙ rw (l, z)
+
+-- 3. The report -------------------------------------------------------------------------------------------------------------------------------------
+
+-- nothing is under way at an absent index
+past : (a b c d : Option OpenCommand) (i : ℕ) → (i < 4 → ⊥) → getD (a ∷ b ∷ c ∷ d ∷ []) i none ≡ none
+past a b c d zero n = absurd (n (omega arith))
+past a b c d (suc zero) n = absurd (n (omega arith))
+past a b c d (suc (suc zero)) n = absurd (n (omega arith))
+past a b c d (suc (suc (suc zero))) n = absurd (n (omega arith))
+past a b c d (suc (suc (suc (suc i)))) n = refl
+
+none-past : (s : Octets) (i : ℕ) → (i < 4 → ⊥) → openAt s i ≡ none
+unfolding openAt decode opensIn
+none-past s i n = past _ _ _ _ i n
+
+none-absent : (s : Octets) (i : ℕ) → presentAt s i ≡ false → openAt s i ≡ none
+none-absent s i e = go (ltb i 4) refl
+  where
+    go : (b : Bool) → ltb i 4 ≡ b → openAt s i ≡ none
+    go true t = absent-open s i (ltb-true i 4 t) e
+    go false t = let n : 4 ≤ i = ltb-false i 4 t in none-past s i (λ l. omega arith)
+
+-- what the model says, by what is under way and the status
+report-none : (s : Octets) (i status : ℕ) → openAt s i ≡ none → reported s i status ≡ ended s badArgument
+unfolding reported reportOut ended
+report-none s i status e = rw e
+
+out-above : (h : Hub) (i status : ℕ) (o : OpenCommand) → 0x14 < status → reportOut h i status (some o) ≡ keep h badArgument
+unfolding reportOut
+out-above h i status o l = rw (lt-ltb 0x14 status l, reportOut)
+
+out-done : (h : Hub) (i status : ℕ) (o : OpenCommand) → status ≡ 0 → reportOut h i status (some o) ≡ keep (withOpen h i none) (finish (h .plain) i o)
+unfolding reportOut
+out-done h i status o e = rw e
+
+out-failed : (h : Hub) (i status : ℕ) (o : OpenCommand) → status ≤ 0x14 → (status ≡ 0 → ⊥)
+    → reportOut h i status (some o) ≡ record { answer = 0; octets = commandStatus i (o .code) status; state = withOpen h i none }
+unfolding reportOut
+out-failed h i status o l n = rw (le-ltb 0x14 status l, reportOut, ne-eqb status 0 n)
+
+-- the model's acting command, by its rule
+finish-is : (p : PlainHub) (i : ℕ) (o : OpenCommand) (u : RadioRule) (c : Controller) → rule (o .code) ≡ some (radio u) → controllerAt p i ≡ some c
+    → finish p i o ≡ acted p i (o .code) (o .params) u c
+unfolding finish finishBy
+finish-is p i o u c k e = rw (k, e)
+
+size-is : (code : ℕ) (u : RadioRule) → rule code ≡ some (radio u) → sizeOf (rule code) ≡ u .size
+unfolding sizeOf
+size-is code u e = rw e
+
+-- once nothing is under way, the state is as a command needs it
+nothing-fine : (c : Controller) → openOk (some c) none ≡ true
+unfolding openOk
+nothing-fine c = refl
+
+pub cleared-ready : (s s₁ : Octets) (i : ℕ) → Ready s i → s₁ ≡ encode (withOpen (decode s) i none) → Ready s₁ i
+cleared-ready s s₁ i g e = rw e (opened-ready s i g none (nothing-fine (controllerOf s i)))
+
+-- nothing is under way, or the status is none: 6
+pub report-absent : (s d : Octets) (i status : ℕ) → stateOk s ≡ true → presentAt s i ≡ false → Gives (reported s i status) BadArgument d d s
+unfolding answerOf octetsOf stateOf
+report-absent s d i status ok e = rw (report-none s i status (none-absent s i e)) (ends-silent s d badArgument BadArgument ok refl refl refl refl)
+
+pub report-idle : (s d : Octets) (i status : ℕ) → Ready s i → u16 s (placeOf i 1) ≡ 0 → Gives (reported s i status) BadArgument d d s
+unfolding answerOf octetsOf stateOf
+report-idle s d i status g e = rw (report-none s i status (open-nothing s i g e)) (ends-silent s d badArgument BadArgument (g .ok) refl refl refl refl)
+
+pub report-above : (s d : Octets) (i status : ℕ) → Ready s i → (u16 s (placeOf i 1) ≡ 0 → ⊥) → 0x14 < status → Gives (reported s i status) BadArgument d d s
+unfolding reported ended answerOf octetsOf stateOf
+report-above s d i status g e l = rw (open-command s i g e, out-above (decode s) i status _ l) (ends-silent s d badArgument BadArgument (g .ok) refl refl refl refl)
+
+-- the command failed
+pub report-failed : (s d d′ s′ : Octets) (i status code : ℕ) → Ready s i → 1024 ≤ length d → code ≡ u16 s (placeOf i 1) → (code ≡ 0 → ⊥) → status ≤ 0x14 → (status ≡ 0 → ⊥)
+    → d′ ≡ writeAt d 0 (commandStatus i code status) → s′ ≡ encode (withOpen (decode s) i none) → Gives (reported s i status) (Done 9) d d′ s′
+unfolding reported laidOut
+report-failed s d d′ s′ i status code g big ec n l z w k =
+    let m = length-status i (u16 s (placeOf i 1)) status in
+    rw (open-command s i g (λ q. n (ec ∙ q)), out-failed (decode s) i status _ l z)
+    (gives-written _ (Done 9) d d′ s′ refl (sym m) (omega arith) (w ∙ rw ec) k)
+
+-- the command under way, by its code and the place of its parameters
+openOf : ℕ → Octets → OpenCommand
+openOf code ps = record { code = code; params = ps }
+
+open-read : (s : Octets) (i : ℕ) → Ready s i → (u16 s (placeOf i 1) ≡ 0 → ⊥)
+    → openAt s i ≡ some (openOf (u16 s (placeOf i 1)) (part s (placeOf i 1 + 2) (sizeOf (rule (u16 s (placeOf i 1))))))
+unfolding openOf
+open-read s i g n = open-command s i g n
+
+open-as : (s : Octets) (i at code : ℕ) → Ready s i → code ≡ u16 s (placeOf i 1) → at ≡ placeOf i 1 + 2 → (code ≡ 0 → ⊥) → openAt s i ≡ some (openOf code (part s at (sizeOf (rule code))))
+open-as s i at code g ec ea n = rw (ec, ea) (open-read s i g (λ q. n (ec ∙ q)))
+
+-- a report of status 0 where o is under way
+acted-gives : (s : Octets) (i : ℕ) (o : OpenCommand) (u : RadioRule) (d d′ s′ : Octets) (r : Answer) → openAt s i ≡ some o → rule (o .code) ≡ some (radio u)
+    → controllerAt (decode s .plain) i ≡ some (controllerOf s i) → (out : Octets)
+    → out ≡ commandComplete i (o .code) 0 (le32 (currentSettings (settingsOf (u .effect (controllerOf s i) (o .params))))) ++ newSettings i (controllerOf s i) (u .effect (controllerOf s i) (o .params))
+    → r ≡ Done (length out) → length out ≤ 23 → 1024 ≤ length d → d′ ≡ writeAt d 0 out
+    → s′ ≡ encode (putController (withOpen (decode s) i none) i (u .effect (controllerOf s i) (o .params))) → Gives (reported s i 0) r d d′ s′
+unfolding reported laidOut keep acted answerOf octetsOf stateOf putController withOpen
+acted-gives s i o u d d′ s′ r eq known here out y er short big w k =
+    let l : length out ≤ length d = omega arith in
+    rw (eq, out-done (decode s) i 0 o refl, finish-is (decode s .plain) i o u (controllerOf s i) known here, er)
+    (gives-written _ (Done (length out)) d d′ s′ refl (rw y) (rw y at l) (w ∙ rw y) k)
+
+-- the reply and the state after the two writes
+reply-of : (i code : ℕ) (c e : Controller) (old new : Settings) → old ≡ settingsOf c → settingsOf e ≡ new
+    → settingsReply i code (currentSettings old) (currentSettings new) ≡ commandComplete i code 0 (le32 (currentSettings (settingsOf e))) ++ newSettings i c e
+reply-of i code c e old new eo en = rw (eo, ← en) (reply-is i code c e)
+
+state-of : (s s₁ s′ : Octets) (i : ℕ) → Ready s i → (e : Controller) (new : Settings) → s₁ ≡ encode (withOpen (decode s) i none)
+    → s′ ≡ encode (putController (decode s₁) i (withSettings (controllerOf s₁ i) new)) → e ≡ withSettings (controllerOf s i) new
+    → s′ ≡ encode (putController (withOpen (decode s) i none) i e)
+state-of s s₁ s′ i g e new e₁ es ee =
+    let fin = nothing-fine (controllerOf s i) in
+    es ∙ rw (e₁, opened-decoded s i g none fin, opened-controller s i g none fin, ee)
+
+-- what it makes of the settings, in the words of its rule
+makes-is : (code : ℕ) (s : Octets) (at : ℕ) (c : Controller) (old new : Settings) (u : RadioRule) (ps : Octets) → Makes code s at old new → Opens code u → old ≡ settingsOf c → ps ≡ part s at (u .size)
+    → settingsEffect u (settingsOf c) ps ≡ new
+makes-is code s at c old new u ps all op eo ep = sym (all u op ∙ rw (eo, ep))
+
+-- the command acts
+pub report-acted : (s s₁ s′ d d′ : Octets) (i at code : ℕ) (r : Answer) (old new : Settings) → Ready s i → 1024 ≤ length d → code ≡ u16 s (placeOf i 1) → (code ≡ 0 → ⊥)
+    → old ≡ settingsOf (controllerOf s i) → at ≡ placeOf i 1 + 2 → Makes code s at old new → s₁ ≡ encode (withOpen (decode s) i none)
+    → r ≡ Done (length (settingsReply i code (currentSettings old) (currentSettings new))) → d′ ≡ writeAt d 0 (settingsReply i code (currentSettings old) (currentSettings new))
+    → s′ ≡ encode (putController (decode s₁) i (withSettings (controllerOf s₁ i) new)) → Gives (reported s i 0) r d d′ s′
+unfolding openOf
+report-acted s s₁ s′ d d′ i at code r old new g big ec n eo ea all e₁ er ed es =
+    let c = controllerOf s i in
+    let o = openOf code (part s at (sizeOf (rule code))) in
+    let eq : openAt s i ≡ some o = open-as s i at code g ec ea n in
+    let w : Waiting code = waiting s i g o eq in
+    let only = opens-only code (w .by) c (o .params) (w .opens) in
+    let m = makes-is code s at c old new (w .by) (o .params) all (w .opens) eo (ap (λ k. part s at k) (size-is code (w .by) (w .known))) in
+    let d₁ = w .by .effect c (o .params) in
+    let es₁ : d₁ ≡ withSettings c new = only .whole ∙ ap (λ (x : Settings). withSettings c x) m in
+    let en : settingsOf d₁ ≡ new = only .settings ∙ m in
+    acted-gives s i o (w .by) d d′ s′ r eq (w .known) (present-controller s i g) (settingsReply i code (currentSettings old) (currentSettings new)) (reply-of i code c d₁ old new eo en) er
+    (settings-short i code (currentSettings old) (currentSettings new)) big ed (state-of s s₁ s′ i g d₁ new e₁ es es₁)
+
+-- the open command of an index lies within the state
+pub open-within : (i at : ℕ) → i < 4 → at ≡ placeOf i 1 → at + 5 ≤ 16116
+unfolding placeOf placeAt sizes
+open-within i at l e = omega arith
