@@ -129,3 +129,20 @@ fn information_command(state: &mut [u8], index: u64, code: u64, ps: &[u8], reply
     }
     information::set_local_name(state, index, ps, reply)
 }
+
+// A key list or Unpair Device to a present controller.
+fn keys_command(state: &mut [u8], index: u64, code: u64, ps: &[u8], reply: &mut [u8]) -> Answer
+    requires { ⌜ Ready (now state) index × (1024 ≤ length (now reply)) × (member code keyCodes ≡ true) ⌝ }
+    ensures { λ r. ⌜ Gives (dispatched (now (state .entry)) index code (now (ps .entry))) r (now (reply .entry)) (now (reply .exit)) (now (state .exit)) ⌝ }
+{
+    if code == 0x12 {
+        return keys::load_link_keys(state, index, ps, reply);
+    }
+    if code == 0x13 {
+        return keys::load_long_term_keys(state, index, ps, reply);
+    }
+    if code == 0x30 {
+        return keys::load_identity_keys(state, index, ps, reply);
+    }
+    keys::unpair_device(state, index, ps, reply)
+}
