@@ -1,0 +1,209 @@
+-- The ways out of the dispatch, each as one law over plain variables.
+-- Assumes nothing.
+use Prim.Native.Nat.{ℕ, zero, suc, _+_, _≤_, _<_}
+use native.Mathlib.Omega.{arith}
+use mathlib.Core.Path.{_≡_, refl, sym, ap, _∙_}
+use mathlib.Core.Bool.{Bool, true, false, _&&_, _||_}
+use mathlib.Core.List.{List, [], _∷_, _++_}
+use mathlib.Core.Option.{Option, none, some}
+use lib.ListN.{length}
+use lib.Dec.{eqb}
+use borrow.Author.Tests.{ne-eqb}
+use Rattle.model.specs.Octets.{Octets, commandStatus}
+use Rattle.model.specs.State.{PlainHub}
+use Rattle.model.specs.Reasons.{statusOf, codeUnknown, controllerAbsent}
+use Rattle.model.specs.Rules.{Rule, immediate, radio, ImmediateRule, RadioRule, setPowered, setDiscoverable, setConnectable, setLowEnergy, setStaticAddress}
+use Rattle.model.specs.Rules.{general as generalRule}
+use Rattle.model.specs.Immediate.{setBondable, setLocalName, addUuid, removeUuid, loadKeys, linkKeyList, longTermKeyList, identityKeyList, unpairDevice, blockDevice, unblockDevice, addDevice, removeDevice, readInformation}
+use Rattle.model.specs.Commands.{rows, find, rule, readVersion, readCommands, readIndexes}
+use Rattle.model.specs.Hub.{refused, byStatus}
+use Rattle.model.specs.Meanings.{stateOk}
+use Rattle.model.specs.Proof.Tests.{no-way, equal, and-true}
+use Rattle.octets.specs.Parts.{writeAt}
+use Rattle.layout.specs.Places.{Ready, presentAt}
+use Rattle.replies.specs.Answers.{Gives}
+use Rattle.replies.specs.declared.Answer.{Answer}
+use Rattle.replies.specs.declared.Answer.the-variants.{Refused}
+use Rattle.outcomes.specs.Outcomes.{general, served, contended, dispatched, ended}
+use Rattle.outcomes.specs.Endings.{ends-refused}
+use Rattle.outcomes.specs.Routes.{route-unknown, route-general, route-immediate, route-immediate-absent, route-radio, route-radio-absent}
+use Rattle.dispatch.specs.Codes.{member, generalCodes, settingsCodes, keyCodes, deviceCodes, informationCodes, controllerCodes, member-rest, member-last, member-other, rule-unknown}
+
+-- 1. A code's function --------------------------------------------------------------------------------------------------------------------------
+
+module _ (s : Octets) (i code known : ℕ) (ps d d′ s′ : Octets) (r : Answer) (ec : code ≡ known) where
+  -- a command that is never Busy
+  pub arm-immediate : (q : ImmediateRule) → rule known ≡ some (immediate q) → Ready s i → Gives (served s i known ps q) r d d′ s′ → Gives (dispatched s i code ps) r d d′ s′
+  arm-immediate q e g k = rw (ec, route-immediate s i known ps q e g) k
+
+  -- a settings command that can be Busy
+  pub arm-radio : (q : RadioRule) → rule known ≡ some (radio q) → Ready s i → Gives (contended s i known ps q) r d d′ s′ → Gives (dispatched s i code ps) r d d′ s′
+  arm-radio q e g k = rw (ec, route-radio s i known ps q e g) k
+
+  -- a general command
+  pub arm-general : (f : PlainHub → Octets) → rule known ≡ some (generalRule f) → Gives (general s i known ps f) r d d′ s′ → Gives (dispatched s i code ps) r d d′ s′
+  arm-general f e k = rw (ec, route-general s i known ps f e) k
+
+-- 2. Refusals -----------------------------------------------------------------------------------------------------------------------------------
+
+-- the rule of a command to a controller
+toController : Option Rule → Bool
+toController none = false
+toController (some (generalRule f)) = false
+toController (some (immediate q)) = true
+toController (some (radio q)) = true
+
+-- all these codes have one
+allTo : List ℕ → Bool
+allTo [] = true
+allTo (c ∷ cs) = toController (rule c) && allTo cs
+
+member-to : (code : ℕ) (cs : List ℕ) → allTo cs ≡ true → member code cs ≡ true → toController (rule code) ≡ true
+unfolding allTo member
+member-to code [] a m = no-way (sym m)
+member-to code (c ∷ cs) a m = let b = and-true (toController (rule c)) _ a in go (eqb code c) refl m (b .0) (member-to code cs (b .1))
+  where
+    go : (b : Bool) → eqb code c ≡ b → b || member code cs ≡ true → toController (rule c) ≡ true → (member code cs ≡ true → toController (rule code) ≡ true) → toController (rule code) ≡ true
+    go true e m t k = rw (equal code c e) t
+    go false e m t k = k m
+
+codes-to : (code : ℕ) → member code controllerCodes ≡ true → toController (rule code) ≡ true
+unfolding allTo toController rule find rows controllerCodes settingsCodes keyCodes deviceCodes informationCodes
+codes-to code m = member-to code controllerCodes refl m
+
+general-none : (code : ℕ) → (code ≡ 1 → ⊥) → (code ≡ 2 → ⊥) → (code ≡ 3 → ⊥) → member code generalCodes ≡ false
+unfolding member generalCodes
+general-none code a b c = rw (ne-eqb code 1 a, ne-eqb code 2 b, ne-eqb code 3 c)
+
+module _ (s : Octets) (i code : ℕ) (ps d d′ : Octets) (r : Answer) (ok : stateOk s ≡ true) (big : 1024 ≤ length d) where
+  absent-by : presentAt s i ≡ false → (u : Option Rule) → rule code ≡ u → toController u ≡ true → dispatched s i code ps ≡ ended s (refused (byStatus i code) controllerAbsent)
+  unfolding toController
+  absent-by e none eu t = no-way (sym t)
+  absent-by e (some (generalRule f)) eu t = no-way (sym t)
+  absent-by e (some (immediate q)) eu t = route-immediate-absent s i code ps q eu e
+  absent-by e (some (radio q)) eu t = route-radio-absent s i code ps q eu e
+
+  -- a command to an absent index
+  pub arm-absent : member code controllerCodes ≡ true → presentAt s i ≡ false → r ≡ Refused 9 → d′ ≡ writeAt d 0 (commandStatus i code 0x11) → Gives (dispatched s i code ps) r d d′ s
+  unfolding statusOf
+  arm-absent m e n w = rw (absent-by e (rule code) refl (codes-to code m)) (ends-refused s i code controllerAbsent d d′ r ok big n w)
+
+  -- a code that is not known
+  pub arm-unknown : (code ≡ 1 → ⊥) → (code ≡ 2 → ⊥) → (code ≡ 3 → ⊥) → member code controllerCodes ≡ false → r ≡ Refused 9 → d′ ≡ writeAt d 0 (commandStatus i code 0x01)
+      → Gives (dispatched s i code ps) r d d′ s
+  unfolding statusOf
+  arm-unknown a b c m n w =
+      rw (route-unknown s i code ps (rule-unknown code (general-none code a b c) m)) (ends-refused s i code codeUnknown d d′ r ok big n w)
+
+-- 3. The groups ---------------------------------------------------------------------------------------------------------------------------------
+
+-- the last of a group is what the others are not
+pub settings-last : (code : ℕ) → member code settingsCodes ≡ true → (code ≡ 0x05 → ⊥) → (code ≡ 0x06 → ⊥) → (code ≡ 0x07 → ⊥) → (code ≡ 0x09 → ⊥) → (code ≡ 0x0D → ⊥) → code ≡ 0x2B
+unfolding settingsCodes
+settings-last code m a b c d e =
+    member-last code _ (member-rest code _ _ (member-rest code _ _ (member-rest code _ _ (member-rest code _ _ (member-rest code _ _ m a) b) c) d) e)
+
+pub keys-last : (code : ℕ) → member code keyCodes ≡ true → (code ≡ 0x12 → ⊥) → (code ≡ 0x13 → ⊥) → (code ≡ 0x30 → ⊥) → code ≡ 0x1B
+unfolding keyCodes
+keys-last code m a b c = member-last code _ (member-rest code _ _ (member-rest code _ _ (member-rest code _ _ m a) b) c)
+
+pub devices-last : (code : ℕ) → member code deviceCodes ≡ true → (code ≡ 0x10 → ⊥) → (code ≡ 0x11 → ⊥) → (code ≡ 0x26 → ⊥) → (code ≡ 0x27 → ⊥) → (code ≡ 0x33 → ⊥) → code ≡ 0x34
+unfolding deviceCodes
+devices-last code m a b c d e =
+    member-last code _ (member-rest code _ _ (member-rest code _ _ (member-rest code _ _ (member-rest code _ _ (member-rest code _ _ m a) b) c) d) e)
+
+pub information-last : (code : ℕ) → member code informationCodes ≡ true → (code ≡ 0x04 → ⊥) → code ≡ 0x0F
+unfolding informationCodes
+information-last code m a = member-last code _ (member-rest code _ _ m a)
+
+-- of the commands to a controller, those of no other group
+pub information-left : (code : ℕ) → member code controllerCodes ≡ true → member code settingsCodes ≡ false → member code keyCodes ≡ false → member code deviceCodes ≡ false → member code informationCodes ≡ true
+unfolding controllerCodes
+information-left code m a b c =
+    member-other code deviceCodes informationCodes (member-other code keyCodes (deviceCodes ++ informationCodes) (member-other code settingsCodes (keyCodes ++ (deviceCodes ++ informationCodes)) m a) b) c
+
+-- 4. The rules by code --------------------------------------------------------------------------------------------------------------------------
+
+pub rule-01 : rule 0x01 ≡ some (generalRule readVersion)
+unfolding rule find rows
+rule-01 = refl
+
+pub rule-02 : rule 0x02 ≡ some (generalRule readCommands)
+unfolding rule find rows
+rule-02 = refl
+
+pub rule-03 : rule 0x03 ≡ some (generalRule readIndexes)
+unfolding rule find rows
+rule-03 = refl
+
+pub rule-04 : rule 0x04 ≡ some (immediate readInformation)
+unfolding rule find rows
+rule-04 = refl
+
+pub rule-05 : rule 0x05 ≡ some (radio setPowered)
+unfolding rule find rows
+rule-05 = refl
+
+pub rule-06 : rule 0x06 ≡ some (radio setDiscoverable)
+unfolding rule find rows
+rule-06 = refl
+
+pub rule-07 : rule 0x07 ≡ some (radio setConnectable)
+unfolding rule find rows
+rule-07 = refl
+
+pub rule-09 : rule 0x09 ≡ some (immediate setBondable)
+unfolding rule find rows
+rule-09 = refl
+
+pub rule-0D : rule 0x0D ≡ some (radio setLowEnergy)
+unfolding rule find rows
+rule-0D = refl
+
+pub rule-0F : rule 0x0F ≡ some (immediate setLocalName)
+unfolding rule find rows
+rule-0F = refl
+
+pub rule-10 : rule 0x10 ≡ some (immediate addUuid)
+unfolding rule find rows
+rule-10 = refl
+
+pub rule-11 : rule 0x11 ≡ some (immediate removeUuid)
+unfolding rule find rows
+rule-11 = refl
+
+pub rule-12 : rule 0x12 ≡ some (immediate (loadKeys linkKeyList))
+unfolding rule find rows
+rule-12 = refl
+
+pub rule-13 : rule 0x13 ≡ some (immediate (loadKeys longTermKeyList))
+unfolding rule find rows
+rule-13 = refl
+
+pub rule-1B : rule 0x1B ≡ some (immediate unpairDevice)
+unfolding rule find rows
+rule-1B = refl
+
+pub rule-26 : rule 0x26 ≡ some (immediate blockDevice)
+unfolding rule find rows
+rule-26 = refl
+
+pub rule-27 : rule 0x27 ≡ some (immediate unblockDevice)
+unfolding rule find rows
+rule-27 = refl
+
+pub rule-2B : rule 0x2B ≡ some (radio setStaticAddress)
+unfolding rule find rows
+rule-2B = refl
+
+pub rule-30 : rule 0x30 ≡ some (immediate (loadKeys identityKeyList))
+unfolding rule find rows
+rule-30 = refl
+
+pub rule-33 : rule 0x33 ≡ some (immediate addDevice)
+unfolding rule find rows
+rule-33 = refl
+
+pub rule-34 : rule 0x34 ≡ some (immediate removeDevice)
+unfolding rule find rows
+rule-34 = refl

@@ -1,0 +1,130 @@
+-- The codes of the commands, in groups: which function serves a code.
+use Prim.Native.Nat.{ℕ, zero, suc, _+_, _≤_, _<_}
+use native.Mathlib.Omega.{arith}
+use mathlib.Core.Path.{_≡_, refl, sym, ap, _∙_}
+use mathlib.Core.Bool.{Bool, true, false, _&&_, _||_, not}
+use mathlib.Core.List.{List, [], _∷_, _++_}
+use mathlib.Core.Option.{Option, none, some}
+use lib.Dec.{eqb}
+use borrow.Author.Tests.{eq-eqb, ne-eqb}
+use Rattle.model.specs.Rules.{Rule}
+use Rattle.model.specs.Commands.{Row, rows, find, rule}
+use Rattle.model.specs.Proof.Tests.{no-way, equal, and-true, or-false}
+
+-- the code is one of those listed
+unfoldable pub member : ℕ → List ℕ → Bool
+member code [] = false
+member code (c ∷ cs) = eqb code c || member code cs
+
+-- 0x0001 to 0x0003, to no controller
+unfoldable pub generalCodes : List ℕ
+generalCodes = 0x0001 ∷ 0x0002 ∷ 0x0003 ∷ []
+
+-- settings
+unfoldable pub settingsCodes : List ℕ
+settingsCodes = 0x0005 ∷ 0x0006 ∷ 0x0007 ∷ 0x0009 ∷ 0x000D ∷ 0x002B ∷ []
+
+-- keys
+unfoldable pub keyCodes : List ℕ
+keyCodes = 0x0012 ∷ 0x0013 ∷ 0x0030 ∷ 0x001B ∷ []
+
+-- UUIDs, blocked devices, devices
+unfoldable pub deviceCodes : List ℕ
+deviceCodes = 0x0010 ∷ 0x0011 ∷ 0x0026 ∷ 0x0027 ∷ 0x0033 ∷ 0x0034 ∷ []
+
+-- information and name
+unfoldable pub informationCodes : List ℕ
+informationCodes = 0x0004 ∷ 0x000F ∷ []
+
+-- the commands to a controller
+unfoldable pub controllerCodes : List ℕ
+controllerCodes = settingsCodes ++ (keyCodes ++ (deviceCodes ++ informationCodes))
+
+-- of a list with a code left out, the others
+pub member-rest : (code c : ℕ) (cs : List ℕ) → member code (c ∷ cs) ≡ true → (code ≡ c → ⊥) → member code cs ≡ true
+unfolding member
+member-rest code c cs e n = rw (ne-eqb code c n) at e
+
+-- the last one left
+pub member-last : (code c : ℕ) → member code (c ∷ []) ≡ true → code ≡ c
+unfolding member
+member-last code c e = go (eqb code c) refl e
+  where
+    go : (b : Bool) → eqb code c ≡ b → b || false ≡ true → code ≡ c
+    go true q f = equal code c q
+    go false q f = no-way (sym f)
+
+pub member-here : (code c : ℕ) (cs : List ℕ) → code ≡ c → member code (c ∷ cs) ≡ true
+unfolding member
+member-here code c cs e = rw (eq-eqb code c e)
+
+pub member-next : (code c : ℕ) (cs : List ℕ) → (code ≡ c → ⊥) → member code (c ∷ cs) ≡ member code cs
+unfolding member
+member-next code c cs n = rw (ne-eqb code c n)
+
+or-assoc : (a b c : Bool) → (a || b) || c ≡ a || (b || c)
+or-assoc true b c = refl
+or-assoc false b c = refl
+
+-- a code of two lists is of one of them
+pub member-append : (code : ℕ) (xs ys : List ℕ) → member code (xs ++ ys) ≡ member code xs || member code ys
+unfolding member
+member-append code [] ys = refl
+member-append code (x ∷ xs) ys = rw (member-append code xs ys) (sym (or-assoc (eqb code x) (member code xs) (member code ys)))
+
+pub member-other : (code : ℕ) (xs ys : List ℕ) → member code (xs ++ ys) ≡ true → member code xs ≡ false → member code ys ≡ true
+member-other code xs ys e n = rw (member-append code xs ys, n) at e
+
+pub or-nothing : (b : Bool) → b || false ≡ b
+or-nothing true = refl
+or-nothing false = refl
+
+-- a controller's code is one of the four groups
+pub controller-groups : (code : ℕ) → member code controllerCodes ≡ member code settingsCodes || (member code keyCodes || (member code deviceCodes || member code informationCodes))
+unfolding controllerCodes
+controller-groups code =
+    rw (member-append code settingsCodes (keyCodes ++ (deviceCodes ++ informationCodes)), member-append code keyCodes (deviceCodes ++ informationCodes), member-append code deviceCodes informationCodes)
+
+-- the rule of a code --------------------------------------------------------------------------------------------------------------------------
+
+-- the codes of rows
+codesOf : List Row → List ℕ
+codesOf [] = []
+codesOf (r ∷ rs) = r .0 ∷ codesOf rs
+
+-- a code of no row has no rule
+find-none : (code : ℕ) (rs : List Row) → member code (codesOf rs) ≡ false → find code rs ≡ none
+unfolding codesOf member find
+find-none code [] e = refl
+find-none code (r ∷ rs) e = go (eqb (r .0) code) refl (λ k. find-none code rs k)
+  where
+    a : (eqb code (r .0) ≡ false) × (member code (codesOf rs) ≡ false)
+    a = or-false (eqb code (r .0)) (member code (codesOf rs)) e
+
+    go : (b : Bool) → eqb (r .0) code ≡ b → (member code (codesOf rs) ≡ false → find code rs ≡ none) → _≡_ {A = Option Rule} (elim b [ true ↦ some (r .1) | false ↦ find code rs ]) none
+    go true q k = no-way (sym (eq-eqb code (r .0) (sym (equal (r .0) code q))) ∙ a .0)
+    go false q k = k (a .1)
+
+-- every code of ys is one of xs
+within : List ℕ → List ℕ → Bool
+within [] xs = true
+within (y ∷ ys) xs = member y xs && within ys xs
+
+-- a code that is not one of xs is not one of ys
+outside : (code : ℕ) (ys xs : List ℕ) → within ys xs ≡ true → member code xs ≡ false → member code ys ≡ false
+unfolding within member
+outside code [] xs w e = refl
+outside code (y ∷ ys) xs w e =
+    let a = and-true (member y xs) _ w in
+    go (eqb code y) refl (outside code ys xs (a .1) e) (a .0)
+  where
+    go : (b : Bool) → eqb code y ≡ b → member code ys ≡ false → member y xs ≡ true → b || member code ys ≡ false
+    go false q r m = r
+    go true q r m = no-way (sym (rw (← equal code y q) at m) ∙ e)
+
+-- a code that is neither general nor a controller's has no rule: "every code not here is unknown"
+pub rule-unknown : (code : ℕ) → member code generalCodes ≡ false → member code controllerCodes ≡ false → rule code ≡ none
+unfolding rule codesOf rows within member generalCodes controllerCodes settingsCodes keyCodes deviceCodes informationCodes
+rule-unknown code g c =
+    let all : member code (generalCodes ++ controllerCodes) ≡ false = rw (member-append code generalCodes controllerCodes, g) c in
+    find-none code rows (outside code (codesOf rows) (generalCodes ++ controllerCodes) refl all)

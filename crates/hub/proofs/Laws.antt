@@ -1,0 +1,36 @@
+-- Laws that the proofs of this crate cite, over plain lists and numbers.
+-- Assumes nothing.
+use Prim.Native.Nat.{ℕ, zero, suc, _+_, _-_, _*_, _≤_, _<_}
+use native.Mathlib.Omega.{arith}
+use mathlib.Core.Path.{_≡_, refl, sym, ap, _∙_}
+use mathlib.Core.Bool.{Bool, true, false, _&&_}
+use mathlib.Core.List.{List, [], _∷_}
+use lib.ListN.{length, drop, length-drop}
+use lib.Dec.{eqb, leb}
+use borrow.Author.Tests.{le-leb, lt-leb}
+use Rattle.model.specs.Octets.{Octets, u16}
+use Rattle.model.specs.Hub.{packetOk, paramsOf}
+use Rattle.replies.specs.Answers.{numberOf}
+use Rattle.replies.specs.declared.Answer.{Answer}
+use Rattle.replies.specs.declared.Answer.the-variants.{Done, Started, Refused, BadPacket, SmallBuffer, BadState, BadArgument, BadImage}
+
+-- a packet with a header is whole if its length field says so
+pub framed-is : (p : Octets) → 6 ≤ length p → eqb (u16 p 4) (length p - 6) ≡ packetOk p
+unfolding packetOk
+framed-is p h = rw (le-leb 6 (length p) h, length-drop)
+
+-- one without is not
+pub framed-not : (p : Octets) → length p < 6 → false ≡ packetOk p
+unfolding packetOk
+framed-not p h = rw (lt-leb 6 (length p) h)
+
+-- an answer's number is one of eight
+pub number-small : (a : Answer) → numberOf a ≤ 7
+number-small (Done n) = omega arith
+number-small Started = omega arith
+number-small (Refused n) = omega arith
+number-small BadPacket = omega arith
+number-small SmallBuffer = omega arith
+number-small BadState = omega arith
+number-small BadArgument = omega arith
+number-small BadImage = omega arith

@@ -1,0 +1,46 @@
+-- What an exported function returns and leaves.
+use Prim.Native.Nat.{ℕ, zero, suc, _+_, _*_, _≤_, _<_}
+use native.Mathlib.Omega.{arith}
+use mathlib.Core.Path.{_≡_, refl, sym, ap, _∙_}
+use mathlib.Core.Bool.{Bool, true, false}
+use mathlib.Core.List.{List, [], _∷_, _++_}
+use lib.ListN.{length, drop}
+use lib.Dec.{leb}
+use Rattle.model.specs.Octets.{Octets}
+use Rattle.model.specs.Hub.{Call, Result}
+use Rattle.model.specs.Meanings.{stateOk, badState, meaning}
+use Rattle.model.specs.Proof.Room.{notSave, room-state}
+use Rattle.replies.specs.Answers.{Gives, numberOf, countOf}
+use Rattle.replies.specs.declared.Answer.{Answer}
+use Rattle.replies.specs.declared.Answer.the-variants.{BadState}
+
+-- an answer and its count in one number: answer + 256 x count
+unfoldable pub packed : Answer → ℕ
+packed a = numberOf a + 256 * countOf a
+
+-- The number returned is that of the model's result o with the count of its octets; the reply buffer `before` has become `after`, with "octets past
+-- that count as they were"; the state is `left`.
+pub record Returns (o : Result Octets) (r : ℕ) (before after left : Octets) : Type 0 where
+  pub number : r ≡ o .answer + 256 * length (o .octets)
+  pub reply : after ≡ o .octets ++ drop (length (o .octets)) before
+  pub state : left ≡ o .state
+
+-- what a call gives, packed
+pub returns-packed : (o : Result Octets) (a : Answer) (r : ℕ) (before after left : Octets) → Gives o a before after left → r ≡ packed a → Returns o r before after left
+unfolding packed
+returns-packed o a r before after left g e = record { number = e ∙ rw (g .answer, g .count); reply = g .reply; state = g .state }
+
+-- a state that is not well formed
+pub gives-bad : (s : Octets) (c : Call) (r : Answer) (d : Octets) → stateOk s ≡ false → r ≡ BadState → Gives (meaning s c) r d d s
+unfolding meaning badState
+gives-bad s c r d e n = rw (e, meaning, n) (record { answer = refl; count = refl; reply = refl; state = refl })
+
+-- no answer's count is longer than the buffer it was written to allows
+pub count-short : (o : Result Octets) (a : Answer) (before after left : Octets) (n : ℕ) → Gives o a before after left → length (o .octets) ≤ n → countOf a ≤ n
+count-short o a before after left n g l = rw (g .count) l
+
+-- the bound of every call but save
+pub count-call : (s : Octets) (c : Call) (a : Answer) (before after left : Octets) → notSave c ≡ true → Gives (meaning s c) a before after left → countOf a ≤ 16014
+count-call s c a before after left n g =
+    let l : length (meaning s c .octets) ≤ 1024 = room-state s c n in
+    count-short (meaning s c) a before after left 16014 g (omega arith)
