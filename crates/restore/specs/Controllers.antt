@@ -276,8 +276,7 @@ module _ (s₀ : Octets) (i : ℕ) (image : Octets) (at : ℕ) (g : Awaited s₀
           pub name-ready : Ready s₃ i × (openAt s₃ i ≡ none) × (found (parseTables (controllerOf s₃ i .radio .hardware) tableRules (drop (at + 283) image)) ≡ true)
           name-ready =
               let d : Controller = controllerWith (drop at image) (take 260 (drop 23 (drop at image))) noTables in
-              let x = after-name (one-found .0) (one-found .1) in
-              (
+              let x = after-name (one-found .0) (one-found .1) in (
                 held-ready (decode s₀) i s₃ d x,
                 held-open (decode s₀) i s₃ d x,
                 some-found (parseTables (controllerOf s₃ i .radio .hardware) tableRules (drop (at + 283) image)) (one-found .1 .tables) (tables-there (one-found .0) (one-found .1)),
