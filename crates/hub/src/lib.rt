@@ -1,9 +1,11 @@
-// The hub: the parts that every call shares.
+// The hub: the order of a call, and the seven functions that C calls.
 ghost use mathlib.Core.Path.{_≡_};
 ghost use Prim.Native.Nat.{_≤_};
+ghost use lib.ListN.{length};
 ghost use Rattle.model.specs.Hub as M;
-ghost use Rattle.replies.specs.Answers.{countOf};
-ghost use Rattle.hub.specs.Entries.{packed};
+ghost use Rattle.model.specs.Meanings.{meaning, hubCommand, hubReport, hubClock, hubPlug, hubUnplug, hubSave, hubLoad};
+ghost use Rattle.replies.specs.Answers.{Gives, countOf, numberOf};
+ghost use Rattle.hub.specs.Entries.{packed, Returns};
 use replies::Answer;
 
 // Whether a packet has a header, and as many octets behind it as the header says.
@@ -23,4 +25,114 @@ fn pack(a: Answer) -> u64
 {
     let n = replies::count(a) as u64;
     replies::number(a) + 256 * n
+}
+
+// A report of the radio.
+fn report(state: &mut [u8], index: u64, status: u64, reply: &mut [u8]) -> Answer
+    ensures { λ r. ⌜ Gives (meaning (now (state .entry)) (M.report (length (now (reply .entry))) index status)) r (now (reply .entry)) (now (reply .exit)) (now (state .exit)) ⌝ }
+{
+    if checks::well_formed(state) {
+        if 1024 <= reply.len() {
+            return settings::report(state, index, status, reply);
+        }
+        return Answer::SmallBuffer;
+    }
+    Answer::BadState
+}
+
+// A reading of the clock.
+fn clock(state: &mut [u8], reading: u32, reply: &mut [u8]) -> Answer
+    ensures { λ r. ⌜ Gives (meaning (now (state .entry)) (M.clock (length (now (reply .entry))) reading)) r (now (reply .entry)) (now (reply .exit)) (now (state .exit)) ⌝ }
+{
+    if checks::well_formed(state) {
+        if 1024 <= reply.len() {
+            return calls::clock(state, reading, reply);
+        }
+        return Answer::SmallBuffer;
+    }
+    Answer::BadState
+}
+
+// A controller is plugged in.
+fn plug(state: &mut [u8], index: u64, address: &[u8], version: u8, manufacturer: u16, supported: u32, reply: &mut [u8]) -> Answer
+    ensures { λ r. ⌜ Gives (meaning (now (state .entry)) (M.plug (length (now (reply .entry))) index (record { publicAddress = now (address .entry); version = version; manufacturer = manufacturer; supported = supported }))) r (now (reply .entry)) (now (reply .exit)) (now (state .exit)) ⌝ }
+{
+    if checks::well_formed(state) {
+        if 1024 <= reply.len() {
+            return calls::plug(state, index, address, version, manufacturer, supported, reply);
+        }
+        return Answer::SmallBuffer;
+    }
+    Answer::BadState
+}
+
+// A controller is gone.
+fn unplug(state: &mut [u8], index: u64, reply: &mut [u8]) -> Answer
+    ensures { λ r. ⌜ Gives (meaning (now (state .entry)) (M.unplug (length (now (reply .entry))) index)) r (now (reply .entry)) (now (reply .exit)) (now (state .exit)) ⌝ }
+{
+    if checks::well_formed(state) {
+        if 1024 <= reply.len() {
+            return calls::unplug(state, index, reply);
+        }
+        return Answer::SmallBuffer;
+    }
+    Answer::BadState
+}
+
+// The image of the state.
+fn save(state: &[u8], reply: &mut [u8]) -> Answer
+    ensures { λ r. ⌜ Gives (meaning (now (state .entry)) (M.save (length (now (reply .entry))))) r (now (reply .entry)) (now (reply .exit)) (now (state .entry)) ⌝ }
+{
+    if checks::well_formed(state) {
+        if 16014 <= reply.len() {
+            return image::save(state, reply);
+        }
+        return Answer::SmallBuffer;
+    }
+    Answer::BadState
+}
+
+// C's call of a report.
+#[no_mangle]
+pub extern "C" fn hub_report(state: &mut [u8], index: u64, status: u64, reply: &mut [u8]) -> u64
+    ensures { λ r. ⌜ Returns (hubReport (now (state .entry)) index status (length (now (reply .entry)))) r (now (reply .entry)) (now (reply .exit)) (now (state .exit)) ⌝ }
+{
+    let a = report(state, index, status, reply);
+    pack(a)
+}
+
+// C's call of a clock reading.
+#[no_mangle]
+pub extern "C" fn hub_clock(state: &mut [u8], reading: u32, reply: &mut [u8]) -> u64
+    ensures { λ r. ⌜ Returns (hubClock (now (state .entry)) reading (length (now (reply .entry)))) r (now (reply .entry)) (now (reply .exit)) (now (state .exit)) ⌝ }
+{
+    let a = clock(state, reading, reply);
+    pack(a)
+}
+
+// C's call of a plug.
+#[no_mangle]
+pub extern "C" fn hub_plug(state: &mut [u8], index: u64, address: &[u8], version: u8, manufacturer: u16, supported: u32, reply: &mut [u8]) -> u64
+    ensures { λ r. ⌜ Returns (hubPlug (now (state .entry)) index (record { publicAddress = now (address .entry); version = version; manufacturer = manufacturer; supported = supported }) (length (now (reply .entry)))) r (now (reply .entry)) (now (reply .exit)) (now (state .exit)) ⌝ }
+{
+    let a = plug(state, index, address, version, manufacturer, supported, reply);
+    pack(a)
+}
+
+// C's call of an unplug.
+#[no_mangle]
+pub extern "C" fn hub_unplug(state: &mut [u8], index: u64, reply: &mut [u8]) -> u64
+    ensures { λ r. ⌜ Returns (hubUnplug (now (state .entry)) index (length (now (reply .entry)))) r (now (reply .entry)) (now (reply .exit)) (now (state .exit)) ⌝ }
+{
+    let a = unplug(state, index, reply);
+    pack(a)
+}
+
+// C's call of a save.
+#[no_mangle]
+pub extern "C" fn hub_save(state: &[u8], reply: &mut [u8]) -> u64
+    ensures { λ r. ⌜ Returns (hubSave (now (state .entry)) (length (now (reply .entry)))) r (now (reply .entry)) (now (reply .exit)) (now (state .entry)) ⌝ }
+{
+    let a = save(state, reply);
+    pack(a)
 }
