@@ -10,7 +10,7 @@ ghost use Rattle.model.specs.Octets as M;
 ghost use Rattle.model.specs.Layout.{region};
 ghost use Rattle.model.specs.Tables.{begins, freed, holds};
 ghost use Rattle.model.specs.Immediate.{addDevice, addUuid, blockDevice, removeUuid, unblockDevice};
-ghost use Rattle.octets.specs.Parts.{writeAt};
+ghost use Rattle.octets.specs.Parts.{part, writeAt};
 ghost use Rattle.table.specs.Slots.{Canonical, tableAt};
 ghost use Rattle.layout.specs.Places.{Ready};
 ghost use Rattle.replies.specs.Answers.{Gives};
@@ -218,4 +218,15 @@ pub fn remove_uuid(state: &mut [u8], index: u64, ps: &[u8], reply: &mut [u8]) ->
         return class_reply(reply, index, 0x0011, old, new);
     }
     refuse(reply, index, 0x0011, 0x0D)
+}
+
+// Whether the record at a place is one that a removal names.
+fn goes(state: &[u8], place: usize, all: bool, key: &[u8]) -> bool
+    requires { ⌜ (place + 8 ≤ length (now state)) × (7 ≤ length (now key)) ⌝ }
+    ensures { λ r. ⌜ r ≡ named all 7 (now (key .entry)) (part (now (state .entry)) place 8) ⌝ }
+{
+    if all {
+        return true;
+    }
+    octets::same_part(key, 0, state, place, 7)
 }
