@@ -3,13 +3,14 @@ ghost use mathlib.Core.Path.{_≡_};
 ghost use Prim.Native.Nat.{_+_, _*_, _≤_, _<_};
 ghost use mathlib.Core.Bool.{_||_};
 ghost use mathlib.Core.Option.{some};
-ghost use mathlib.Core.List.{_++_};
+ghost use mathlib.Core.List.{[], _∷_, _++_};
 ghost use lib.ListN.{length, set, take};
 ghost use Rattle.model.specs.Octets.{commandComplete, commandStatus};
 ghost use Rattle.model.specs.Octets as M;
 ghost use Rattle.model.specs.Layout.{region};
 ghost use Rattle.model.specs.Tables.{begins, freed, holds};
 ghost use Rattle.model.specs.Immediate.{addDevice, addUuid, blockDevice, removeUuid, unblockDevice};
+ghost use Rattle.model.specs.Immediate as I;
 ghost use Rattle.octets.specs.Parts.{part, writeAt};
 ghost use Rattle.table.specs.Slots.{Canonical, tableAt};
 ghost use Rattle.layout.specs.Places.{Ready};
@@ -229,4 +230,20 @@ fn goes(state: &[u8], place: usize, all: bool, key: &[u8]) -> bool
         return true;
     }
     octets::same_part(key, 0, state, place, 7)
+}
+
+// Device Removed at the place `end` for the record at a place, if it goes. Returns where the next event is to stand.
+fn removal(state: &[u8], place: usize, index: u64, all: bool, key: &[u8], reply: &mut [u8], end: usize) -> usize
+    requires { ⌜ (place + 8 ≤ length (now state)) × (7 ≤ length (now key)) × (end + 13 ≤ length (now reply)) ⌝ }
+    ensures { λ r. ⌜
+        (r ≡ end + length (I.removals index (named all 7 (now (key .entry))) (part (now (state .entry)) place 8 ∷ [])))
+        × (now (reply .exit) ≡ writeAt (now (reply .entry)) end (I.removals index (named all 7 (now (key .entry))) (part (now (state .entry)) place 8 ∷ [])))
+        × (r ≤ end + 13)
+    ⌝ }
+{
+    if goes(state, place, all, key) {
+        replies::event_part(reply, end, 0x001B, index, state, place, 7);
+        return end + 13;
+    }
+    end
 }
