@@ -8,7 +8,7 @@ ghost use lib.ListN.{length, set, take};
 ghost use Rattle.model.specs.Octets.{commandComplete, commandStatus};
 ghost use Rattle.model.specs.Octets as M;
 ghost use Rattle.model.specs.Layout.{region};
-ghost use Rattle.model.specs.Tables.{begins, freed, holds};
+ghost use Rattle.model.specs.Tables.{begins, entries, freed, holds};
 ghost use Rattle.model.specs.Immediate.{addDevice, addUuid, blockDevice, removeUuid, unblockDevice};
 ghost use Rattle.model.specs.Immediate as I;
 ghost use Rattle.octets.specs.Parts.{part, writeAt};
@@ -244,6 +244,23 @@ fn removal(state: &[u8], place: usize, index: u64, all: bool, key: &[u8], reply:
     if goes(state, place, all, key) {
         replies::event_part(reply, end, 0x001B, index, state, place, 7);
         return end + 13;
+    }
+    end
+}
+
+// Device Removed for each record of the table that goes, in slot order, from a place of the reply on. Returns where they end.
+fn removals(state: &[u8], at: usize, index: u64, all: bool, key: &[u8], reply: &mut [u8], place: usize) -> usize
+    requires { ⌜ (at + (4 + 8 * 32) ≤ length (now state)) × (7 ≤ length (now key)) × (place + 13 * 32 ≤ length (now reply)) ⌝ }
+    ensures { λ r. ⌜
+        (r ≡ place + length (I.removals index (named all 7 (now (key .entry))) (entries (tableAt (now (state .entry)) at 8))))
+        × (now (reply .exit) ≡ writeAt (now (reply .entry)) place (I.removals index (named all 7 (now (key .entry))) (entries (tableAt (now (state .entry)) at 8))))
+    ⌝ }
+{
+    let mut end = place;
+    let mut slot = table::next_used(state, at, 0);
+    while slot < 32 {
+        end = removal(state, at + (4 + 8 * slot), index, all, key, reply, end);
+        slot = table::next_used(state, at, slot + 1);
     }
     end
 }
