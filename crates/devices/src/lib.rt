@@ -11,13 +11,14 @@ ghost use Rattle.model.specs.Layout.{region};
 ghost use Rattle.model.specs.Tables.{begins, entries, freed, holds};
 ghost use Rattle.model.specs.Immediate.{addDevice, addUuid, blockDevice, removeUuid, unblockDevice};
 ghost use Rattle.model.specs.Immediate as I;
+ghost use Rattle.model.specs.Reasons.{passes};
 ghost use Rattle.octets.specs.Parts.{part, writeAt};
 ghost use Rattle.table.specs.Slots.{Canonical, tableAt};
 ghost use Rattle.layout.specs.Places.{Ready};
 ghost use Rattle.replies.specs.Answers.{Gives};
 ghost use Rattle.replies.specs.declared.Answer.the-variants.{Done, Refused};
 ghost use Rattle.outcomes.specs.Outcomes.{served};
-ghost use Rattle.devices.specs.Slots.{classReply, hintsOf, named, slotFor};
+ghost use Rattle.devices.specs.Slots.{classReply, hintsOf, named, removalChecks, slotFor};
 use replies::Answer;
 
 // A refusal by Command Status.
@@ -263,4 +264,18 @@ fn removals(state: &[u8], at: usize, index: u64, all: bool, key: &[u8], reply: &
         slot = table::next_used(state, at, slot + 1);
     }
     end
+}
+
+// Whether the values of Remove Device are good: type 0 to 2, and a zero address only with type 0.
+fn removal_ok(ps: &[u8]) -> bool
+    requires { ⌜ length (now ps) ≡ 7 ⌝ }
+    ensures { λ r. ⌜ r ≡ passes (removalChecks (now (ps .entry))) ⌝ }
+{
+    if 2 < ps[6] {
+        return false;
+    }
+    if ps[6] == 0 {
+        return true;
+    }
+    !octets::zero_part(ps, 0, 6)
 }
