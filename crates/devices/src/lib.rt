@@ -279,3 +279,15 @@ fn removal_ok(ps: &[u8]) -> bool
     }
     !octets::zero_part(ps, 0, 6)
 }
+
+// Command Complete with the address and type, then Device Removed for each record that goes. Returns the count of octets.
+fn removed_reply(state: &[u8], at: usize, index: u64, all: bool, ps: &[u8], reply: &mut [u8]) -> usize
+    requires { ⌜ (at + (4 + 8 * 32) ≤ length (now state)) × (length (now ps) ≡ 7) × (1024 ≤ length (now reply)) ⌝ }
+    ensures { λ r. ⌜
+        (r ≡ 16 + length (I.removals index (named all 7 (now (ps .entry))) (entries (tableAt (now (state .entry)) at 8))))
+        × (now (reply .exit) ≡ writeAt (now (reply .entry)) 0 (commandComplete index 0x0034 0 (now (ps .entry)) ++ I.removals index (named all 7 (now (ps .entry))) (entries (tableAt (now (state .entry)) at 8))))
+    ⌝ }
+{
+    replies::command_complete(reply, 0, index, 0x0034, 0, ps);
+    removals(state, at, index, all, ps, reply, 16)
+}
