@@ -9,7 +9,7 @@ ghost use Rattle.model.specs.Octets.{commandComplete, commandStatus};
 ghost use Rattle.model.specs.Octets as M;
 ghost use Rattle.model.specs.Layout.{region};
 ghost use Rattle.model.specs.Tables.{begins, entries, freed, holds};
-ghost use Rattle.model.specs.Immediate.{addDevice, addUuid, blockDevice, removeUuid, unblockDevice};
+ghost use Rattle.model.specs.Immediate.{addDevice, addUuid, blockDevice, removeDevice, removeUuid, unblockDevice};
 ghost use Rattle.model.specs.Immediate as I;
 ghost use Rattle.model.specs.Reasons.{passes};
 ghost use Rattle.octets.specs.Parts.{part, writeAt};
@@ -290,4 +290,25 @@ fn removed_reply(state: &[u8], at: usize, index: u64, all: bool, ps: &[u8], repl
 {
     replies::command_complete(reply, 0, index, 0x0034, 0, ps);
     removals(state, at, index, all, ps, reply, 16)
+}
+
+// 0x0034 Remove Device: one, or all by a zero address and type.
+pub fn remove_device(state: &mut [u8], index: u64, ps: &[u8], reply: &mut [u8]) -> Answer
+    requires { ⌜ Ready (now state) index × (1024 ≤ length (now reply)) ⌝ }
+    ensures { λ r. ⌜ Gives (served (now (state .entry)) index 0x0034 (now (ps .entry)) removeDevice) r (now (reply .entry)) (now (reply .exit)) (now (state .exit)) ⌝ }
+{
+    if ps.len() != 7 {
+        return refuse(reply, index, 0x0034, 0x0D);
+    }
+    if removal_ok(ps) {
+        let all = octets::all_zero(ps);
+        let at = layout::table_place(index, 5);
+        if names_record(state, at, 8, ps, 7, all) {
+            let count = removed_reply(state, at, index, all, ps, reply);
+            release_named(state, at, 8, ps, 7, all);
+            return Answer::Done(count);
+        }
+        return refuse_address(reply, index, 0x0034, 0x0D, ps);
+    }
+    refuse_address(reply, index, 0x0034, 0x0D, ps)
 }
