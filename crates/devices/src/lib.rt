@@ -234,13 +234,21 @@ fn goes(state: &[u8], place: usize, all: bool, key: &[u8]) -> bool
 }
 
 // Device Removed at the place `end` for the record at a place, if it goes. Returns where the next event is to stand.
-fn removal(state: &[u8], place: usize, index: u64, all: bool, key: &[u8], reply: &mut [u8], end: usize) -> usize
+fn removal(
+    state: &[u8],
+    place: usize,
+    index: u64,
+    all: bool,
+    key: &[u8],
+    reply: &mut [u8],
+    end: usize,
+) -> usize
     requires { ⌜ (place + 8 ≤ length (now state)) × (7 ≤ length (now key)) × (end + 13 ≤ length (now reply)) ⌝ }
     ensures { λ r. ⌜
         (r ≡ end + length (I.removals index (named all 7 (now (key .entry))) (part (now (state .entry)) place 8 ∷ [])))
         × (now (reply .exit) ≡ writeAt (now (reply .entry)) end (I.removals index (named all 7 (now (key .entry))) (part (now (state .entry)) place 8 ∷ [])))
         × (r ≤ end + 13)
-    ⌝ }
+        ⌝ }
 {
     if goes(state, place, all, key) {
         replies::event_part(reply, end, 0x001B, index, state, place, 7);
@@ -250,12 +258,20 @@ fn removal(state: &[u8], place: usize, index: u64, all: bool, key: &[u8], reply:
 }
 
 // Device Removed for each record of the table that goes, in slot order, from a place of the reply on. Returns where they end.
-fn removals(state: &[u8], at: usize, index: u64, all: bool, key: &[u8], reply: &mut [u8], place: usize) -> usize
+fn removals(
+    state: &[u8],
+    at: usize,
+    index: u64,
+    all: bool,
+    key: &[u8],
+    reply: &mut [u8],
+    place: usize,
+) -> usize
     requires { ⌜ (at + (4 + 8 * 32) ≤ length (now state)) × (7 ≤ length (now key)) × (place + 13 * 32 ≤ length (now reply)) ⌝ }
     ensures { λ r. ⌜
         (r ≡ place + length (I.removals index (named all 7 (now (key .entry))) (entries (tableAt (now (state .entry)) at 8))))
         × (now (reply .exit) ≡ writeAt (now (reply .entry)) place (I.removals index (named all 7 (now (key .entry))) (entries (tableAt (now (state .entry)) at 8))))
-    ⌝ }
+        ⌝ }
 {
     let mut end = place;
     let mut slot = table::next_used(state, at, 0);
@@ -281,12 +297,19 @@ fn removal_ok(ps: &[u8]) -> bool
 }
 
 // Command Complete with the address and type, then Device Removed for each record that goes. Returns the count of octets.
-fn removed_reply(state: &[u8], at: usize, index: u64, all: bool, ps: &[u8], reply: &mut [u8]) -> usize
+fn removed_reply(
+    state: &[u8],
+    at: usize,
+    index: u64,
+    all: bool,
+    ps: &[u8],
+    reply: &mut [u8],
+) -> usize
     requires { ⌜ (at + (4 + 8 * 32) ≤ length (now state)) × (length (now ps) ≡ 7) × (1024 ≤ length (now reply)) ⌝ }
     ensures { λ r. ⌜
         (r ≡ 16 + length (I.removals index (named all 7 (now (ps .entry))) (entries (tableAt (now (state .entry)) at 8))))
         × (now (reply .exit) ≡ writeAt (now (reply .entry)) 0 (commandComplete index 0x0034 0 (now (ps .entry)) ++ I.removals index (named all 7 (now (ps .entry))) (entries (tableAt (now (state .entry)) at 8))))
-    ⌝ }
+        ⌝ }
 {
     replies::command_complete(reply, 0, index, 0x0034, 0, ps);
     removals(state, at, index, all, ps, reply, 16)
