@@ -35,17 +35,21 @@ use Rattle.devices.proofs.Uuids.{neither}
 
 -- 1. One record -------------------------------------------------------------------------------------------------------------------------------------
 
+-- the first seven octets of a record where it lies
 seven-of : (s : Octets) (p : ℕ) → take 7 (part s p 8) ≡ part s p 7
 unfolding part
 seven-of s p = rw add-zero at (part-part s p 8 0 7 (omega arith))
 
+-- the first seven octets of a key
 first-seven : (key : Octets) → part key 0 7 ≡ take 7 key
 unfolding part
 first-seven key = refl
 
+-- a removal of all names every record
 pub goes-all : (all b : Bool) → all ≡ true → true ≡ (all || b)
 goes-all all b e = rw e
 
+-- a removal of one names the records with its address and type
 pub goes-same : (all : Bool) (key s : Octets) (p : ℕ) (b : Bool) → all ≡ false → b ≡ same (part key 0 7) (part s p 7) → b ≡ named all 7 key (part s p 8)
 unfolding begins
 goes-same all key s p b e q = q ∙ rw (e, seven-of s p, first-seven key)
@@ -55,19 +59,23 @@ one-goes : (i : ℕ) (m : Octets → Bool) (x : Octets) → m x ≡ true → rem
 unfolding removals
 one-goes i m x e = rw (e, append-nil)
 
+-- a record that stays has no event
 one-stays : (i : ℕ) (m : Octets → Bool) (x : Octets) → m x ≡ false → removals i m (x ∷ []) ≡ []
 unfolding removals
 one-stays i m x e = rw e
 
+-- an event with seven octets has thirteen
 thirteen : (s : Octets) (i p : ℕ) → p + 8 ≤ length s → length (event 0x001B i (part s p 7)) ≡ 13
 thirteen s i p h = length-event 0x001B i (part s p 7) 7 (length-part s p 7 (omega arith))
 
+-- what is written for a record that goes
 pub removal-goes : (s d d′ : Octets) (i p end : ℕ) (m : Octets → Bool) → p + 8 ≤ length s → true ≡ m (part s p 8) → d′ ≡ writeAt d end (event 0x001B i (part s p 7))
     → (end + 13 ≡ end + length (removals i m (part s p 8 ∷ []))) × (d′ ≡ writeAt d end (removals i m (part s p 8 ∷ []))) × (end + 13 ≤ end + 13)
 removal-goes s d d′ i p end m h e w =
     let q : removals i m (part s p 8 ∷ []) ≡ event 0x001B i (part s p 7) = one-goes i m (part s p 8) (sym e) ∙ rw (seven-of s p) in
     (rw (q, thirteen s i p h), w ∙ rw q, omega arith)
 
+-- nothing is written for a record that stays
 pub removal-stays : (s d : Octets) (i p end : ℕ) (m : Octets → Bool) → false ≡ m (part s p 8)
     → (end ≡ end + length (removals i m (part s p 8 ∷ []))) × (d ≡ writeAt d end (removals i m (part s p 8 ∷ []))) × (end ≤ end + 13)
 unfolding writeAt
@@ -77,6 +85,7 @@ removal-stays s d i p end m e =
 
 -- 2. All records ------------------------------------------------------------------------------------------------------------------------------------
 
+-- the events of the first record, then those of the rest
 removals-cons : (i : ℕ) (m : Octets → Bool) (x : Octets) (rs : List Octets) → removals i m (x ∷ rs) ≡ removals i m (x ∷ []) ++ removals i m rs
 unfolding removals
 removals-cons i m x rs = go (m x)
@@ -92,11 +101,13 @@ pub record Walked (s : Octets) (at i : ℕ) (m : Octets → Bool) (d₀ : Octets
   pub count : end + length (removals i m (entries (drop k (tableAt s at 8)))) ≡ place + length (removals i m (entries (tableAt s at 8)))
   pub near : end ≤ place + 13 * k
 
+-- the walk at its first slot in use
 pub walk-first : (s : Octets) (at i : ℕ) (m : Octets → Bool) (d : Octets) (place r : ℕ) → NextUsed s at 8 0 r → Walked s at i m d place d place r
 walk-first s at i m d place r u =
     let e : entries (tableAt s at 8) ≡ entries (drop r (tableAt s at 8)) = next-entries s at 8 0 r u in
     record { long = refl; wrote = rw e; count = rw e; near = omega arith }
 
+-- the walk a slot further
 pub walk-turn : (s : Octets) (at i : ℕ) (m : Octets → Bool) (d₀ : Octets) (place : ℕ) (d d′ : Octets) (end end′ k r : ℕ) → length d′ ≡ length d → k + 1 ≤ r → InUse s at 8 k → NextUsed s at 8 (k + 1) r
     → end′ ≡ end + length (removals i m (part s (at + (4 + 8 * k)) 8 ∷ [])) → d′ ≡ writeAt d end (removals i m (part s (at + (4 + 8 * k)) 8 ∷ [])) → end′ ≤ end + 13
     → Walked s at i m d₀ place d end k → Walked s at i m d₀ place d′ end′ r
@@ -110,12 +121,14 @@ walk-turn s at i m d₀ place d d′ end end′ k r n l u v e w b z =
     let h : end + length (removals i m (x ∷ []) ++ removals i m rest) ≡ place + length (removals i m (entries (tableAt s at 8))) = rw f at (z .count) in
     record { long = n ∙ z .long; wrote = g ∙ (rw f at (z .wrote)); count = omega arith; near = omega (arith, z .near) }
 
+-- no records lie past the last slot
 past-end : (s : Octets) (at k : ℕ) → 32 ≤ k → entries (drop k (tableAt s at 8)) ≡ []
 unfolding entries
 past-end s at k h =
     let d : drop k (tableAt s at 8) ≡ [] = drop-of-length-le (tableAt s at 8) {i = k} (rw (length-table s at 8) h) in
     rw d
 
+-- the walk at its end: all is written
 pub walk-last : (s : Octets) (at i : ℕ) (m : Octets → Bool) (d₀ : Octets) (place : ℕ) (d : Octets) (end k : ℕ) → 32 ≤ k → k ≤ 32 → Walked s at i m d₀ place d end k
     → (end ≡ place + length (removals i m (entries (tableAt s at 8)))) × (d ≡ writeAt d₀ place (removals i m (entries (tableAt s at 8))))
 unfolding writeAt removals
@@ -133,10 +146,12 @@ removed-written d d1 d2 i ps out l e1 e2 =
 
 -- 3. The values -----------------------------------------------------------------------------------------------------------------------------------
 
+-- a type above 2 fails
 pub type-high : (ps : Octets) → 2 < getD ps 6 0 → false ≡ passes (removalChecks ps)
 unfolding removalChecks passes firstOf nothing octet
 type-high ps h = rw (lt-ltb 2 (getD ps 6 0) h)
 
+-- type 0 passes with any address
 pub type-zero : (ps : Octets) → getD ps 6 0 ≡ 0 → true ≡ passes (removalChecks ps)
 unfolding removalChecks passes firstOf nothing octet
 type-zero ps e = rw e (go (allZero (take 6 ps)))
@@ -145,6 +160,7 @@ type-zero ps e = rw e (go (allZero (take 6 ps)))
     go true = refl
     go false = refl
 
+-- another type passes if the address is not zero
 pub type-other : (ps : Octets) (b : Bool) → getD ps 6 0 ≤ 2 → (getD ps 6 0 ≡ 0 → ⊥) → b ≡ allZero (part ps 0 6) → not b ≡ passes (removalChecks ps)
 unfolding removalChecks passes firstOf nothing octet part
 type-other ps b h n e = rw (le-ltb 2 (getD ps 6 0) h, ne-eqb (getD ps 6 0) 0 n, ← e) (go b)
@@ -153,19 +169,23 @@ type-other ps b h n e = rw (le-ltb 2 (getD ps 6 0) h, ne-eqb (getD ps 6 0) 0 n, 
     go true = refl
     go false = refl
 
+-- bad values are told by Invalid Parameters
 removal-told : (ps : Octets) → Told 0x0D (removalChecks ps)
 unfolding Told removalChecks statusOf
 removal-told ps = (refl, (refl, tt))
 
+-- so is a device that is absent
 absent-told : statusOf deviceAbsent ≡ 0x0D
 unfolding statusOf
 absent-told = refl
 
 -- 4. Remove Device ----------------------------------------------------------------------------------------------------------------------------------
 
+-- the check that the device is there
 abbrev absentCheck : Octets → Table → List Check
 absentCheck ps t = (not (allZero ps) && not (holds (begins 7 ps) t) ⇒ deviceAbsent) ∷ []
 
+-- the model's rule, its checks and its effect named
 remove-act : (i : ℕ) (c : Controller) (ps : Octets)
     → removeDevice .act i c ps ≡ unless (firstOf (removalChecks ps ++ absentCheck ps (tableOf (c .host) 5)))
     (done ps (removals i (named (allZero ps) 7 ps) (entries (tableOf (c .host) 5))) (withTable (c .host) 5 (freed (named (allZero ps) 7 ps) (tableOf (c .host) 5))))
@@ -187,11 +207,13 @@ removals-short i m (some x ∷ t) = go (m x) (removals-short i m t)
     go false h = omega arith
 
 module _ (s : Octets) (i : ℕ) (ps d d′ : Octets) (r : Answer) (g : Ready s i) (big : 1024 ≤ length d) where
+  -- a wrong length
   pub remove-device-length : (length ps ≡ 7 → ⊥) → r ≡ Refused 9 → d′ ≡ writeAt d 0 (commandStatus i 0x0034 0x0D) → Gives (served s i 0x0034 ps removeDevice) r d d′ s
   unfolding removeDevice
   remove-device-length l m w = ends-length s i 0x0034 ps removeDevice 7 refl d d′ r g big l m w
 
   module _ (l : length ps ≡ 7) where
+    -- bad values
     pub remove-device-bad : false ≡ passes (removalChecks ps) → r ≡ Refused 16 → d′ ≡ writeAt d 0 (commandComplete i 0x0034 0x0D (take 7 ps)) → Gives (served s i 0x0034 ps removeDevice) r d d′ s
     unfolding removeDevice
     remove-device-bad e m w =
@@ -199,15 +221,18 @@ module _ (s : Octets) (i : ℕ) (ps d d′ : Octets) (r : Answer) (g : Ready s i
         (fails-first 0x0D (removalChecks ps) _ (removal-told ps) (sym e)) refl (omega arith) m w
 
     module _ (e : true ≡ passes (removalChecks ps)) (p : ℕ) (ep : p ≡ tablePlace i 5) (all : Bool) (ea : all ≡ allZero ps) (c : Bool) (ec : c ≡ (all || holds (begins 7 ps) (tableAt s p 8))) where
+      -- the model's test for absence is the code's
       not-named : not (allZero ps) && not (holds (begins 7 ps) (tableOf (controllerOf s i .host) 5)) ≡ not c
       not-named = neither (allZero ps) (holds (begins 7 ps) (tableOf (controllerOf s i .host) 5)) c (ec ∙ rw (ea, table-is s i g 5 (lit< tt) p 8 ep size5))
 
+      -- a device that is absent
       pub remove-device-absent : c ≡ false → r ≡ Refused 16 → d′ ≡ writeAt d 0 (commandComplete i 0x0034 0x0D (take 7 ps)) → Gives (served s i 0x0034 ps removeDevice) r d d′ s
       unfolding removeDevice
       remove-device-absent f m w =
           ends-address s i 0x0034 ps removeDevice 7 refl d d′ r g big l _ _ (remove-act i (controllerOf s i) ps) 0x0D
           (fails-then (removalChecks ps) _ 0x0D (sym e) (check-fails _ deviceAbsent [] 0x0D (not-named ∙ rw f) absent-told)) refl (omega arith) m w
 
+      -- what goes is told and freed
       pub remove-device-done : (s′ : Octets) (n : ℕ) → c ≡ true → n ≡ 16 + length (removals i (named all 7 ps) (entries (tableAt s p 8)))
           → d′ ≡ writeAt d 0 (commandComplete i 0x0034 0 ps ++ removals i (named all 7 ps) (entries (tableAt s p 8)))
           → s′ ≡ writeAt s p (region 8 (freed (named all 7 ps) (tableAt s p 8))) → r ≡ Done n → Gives (served s i 0x0034 ps removeDevice) r d d′ s′
