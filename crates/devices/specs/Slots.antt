@@ -3,9 +3,13 @@
 use Prim.Native.Nat.{ℕ}
 use mathlib.Core.Bool.{Bool, true, false, _||_}
 use mathlib.Core.List.{[], _∷_, _++_}
-use lib.Dec.{eqb}
-use Rattle.model.specs.Octets.{Octets, event, commandComplete}
+use mathlib.Core.Bool.{_&&_, not}
+use mathlib.Core.List.{List}
+use lib.ListN.{take}
+use lib.Dec.{eqb, ltb}
+use Rattle.model.specs.Octets.{Octets, octet, allZero, event, commandComplete}
 use Rattle.model.specs.State.{Table}
+use Rattle.model.specs.Reasons.{Check, _⇒_, addressTypeAbove2, addressZeroNotBredr}
 use Rattle.model.specs.Tables.{begins, entries, holds}
 use Rattle.model.specs.Proof.Region.{free}
 use Rattle.table.specs.Slots.{firstAt, joinedByOr}
@@ -33,3 +37,7 @@ changedClass index old new = elim (eqb old new) [ true ↦ [] | false ↦ event 
 -- what Add UUID and Remove UUID write when they act: they "return the class", and "events follow the reply"
 unfoldable pub classReply : ℕ → ℕ → ℕ → ℕ → Octets
 classReply index code old new = commandComplete index code 0 (classWith new) ++ changedClass index old new
+
+-- the values of Remove Device: "type 0 to 2; zero with another type: Invalid Parameters"
+unfoldable pub removalChecks : Octets → List Check
+removalChecks ps = (ltb 2 (octet ps 6) ⇒ addressTypeAbove2) ∷ (allZero (take 6 ps) && not (eqb (octet ps 6) 0) ⇒ addressZeroNotBredr) ∷ []

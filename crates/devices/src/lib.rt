@@ -3,20 +3,22 @@ ghost use mathlib.Core.Path.{_≡_};
 ghost use Prim.Native.Nat.{_+_, _*_, _≤_, _<_};
 ghost use mathlib.Core.Bool.{_||_};
 ghost use mathlib.Core.Option.{some};
-ghost use mathlib.Core.List.{_++_};
+ghost use mathlib.Core.List.{[], _∷_, _++_};
 ghost use lib.ListN.{length, set, take};
 ghost use Rattle.model.specs.Octets.{commandComplete, commandStatus};
 ghost use Rattle.model.specs.Octets as M;
 ghost use Rattle.model.specs.Layout.{region};
-ghost use Rattle.model.specs.Tables.{begins, freed, holds};
-ghost use Rattle.model.specs.Immediate.{addDevice, addUuid, blockDevice, removeUuid, unblockDevice};
-ghost use Rattle.octets.specs.Parts.{writeAt};
+ghost use Rattle.model.specs.Tables.{begins, entries, freed, holds};
+ghost use Rattle.model.specs.Immediate.{addDevice, addUuid, blockDevice, removeDevice, removeUuid, unblockDevice};
+ghost use Rattle.model.specs.Immediate as I;
+ghost use Rattle.model.specs.Reasons.{passes};
+ghost use Rattle.octets.specs.Parts.{part, writeAt};
 ghost use Rattle.table.specs.Slots.{Canonical, tableAt};
 ghost use Rattle.layout.specs.Places.{Ready};
 ghost use Rattle.replies.specs.Answers.{Gives};
 ghost use Rattle.replies.specs.declared.Answer.the-variants.{Done, Refused};
 ghost use Rattle.outcomes.specs.Outcomes.{served};
-ghost use Rattle.devices.specs.Slots.{classReply, hintsOf, named, slotFor};
+ghost use Rattle.devices.specs.Slots.{classReply, hintsOf, named, removalChecks, slotFor};
 use replies::Answer;
 
 // A refusal by Command Status.
@@ -218,4 +220,118 @@ pub fn remove_uuid(state: &mut [u8], index: u64, ps: &[u8], reply: &mut [u8]) ->
         return class_reply(reply, index, 0x0011, old, new);
     }
     refuse(reply, index, 0x0011, 0x0D)
+}
+
+// Whether the record at a place is one that a removal names.
+fn goes(state: &[u8], place: usize, all: bool, key: &[u8]) -> bool
+    requires { ⌜ (place + 8 ≤ length (now state)) × (7 ≤ length (now key)) ⌝ }
+    ensures { λ r. ⌜ r ≡ named all 7 (now (key .entry)) (part (now (state .entry)) place 8) ⌝ }
+{
+    if all {
+        return true;
+    }
+    octets::same_part(key, 0, state, place, 7)
+}
+
+// Device Removed at the place `end` for the record at a place, if it goes. Returns where the next event is to stand.
+fn removal(
+    state: &[u8],
+    place: usize,
+    index: u64,
+    all: bool,
+    key: &[u8],
+    reply: &mut [u8],
+    end: usize,
+) -> usize
+    requires { ⌜ (place + 8 ≤ length (now state)) × (7 ≤ length (now key)) × (end + 13 ≤ length (now reply)) ⌝ }
+    ensures { λ r. ⌜
+        (r ≡ end + length (I.removals index (named all 7 (now (key .entry))) (part (now (state .entry)) place 8 ∷ [])))
+        × (now (reply .exit) ≡ writeAt (now (reply .entry)) end (I.removals index (named all 7 (now (key .entry))) (part (now (state .entry)) place 8 ∷ [])))
+        × (r ≤ end + 13)
+        ⌝ }
+{
+    if goes(state, place, all, key) {
+        replies::event_part(reply, end, 0x001B, index, state, place, 7);
+        return end + 13;
+    }
+    end
+}
+
+// Device Removed for each record of the table that goes, in slot order, from a place of the reply on. Returns where they end.
+fn removals(
+    state: &[u8],
+    at: usize,
+    index: u64,
+    all: bool,
+    key: &[u8],
+    reply: &mut [u8],
+    place: usize,
+) -> usize
+    requires { ⌜ (at + (4 + 8 * 32) ≤ length (now state)) × (7 ≤ length (now key)) × (place + 13 * 32 ≤ length (now reply)) ⌝ }
+    ensures { λ r. ⌜
+        (r ≡ place + length (I.removals index (named all 7 (now (key .entry))) (entries (tableAt (now (state .entry)) at 8))))
+        × (now (reply .exit) ≡ writeAt (now (reply .entry)) place (I.removals index (named all 7 (now (key .entry))) (entries (tableAt (now (state .entry)) at 8))))
+        ⌝ }
+{
+    let mut end = place;
+    let mut slot = table::next_used(state, at, 0);
+    while slot < 32 {
+        end = removal(state, at + (4 + 8 * slot), index, all, key, reply, end);
+        slot = table::next_used(state, at, slot + 1);
+    }
+    end
+}
+
+// Whether the values of Remove Device are good: type 0 to 2, and a zero address only with type 0.
+fn removal_ok(ps: &[u8]) -> bool
+    requires { ⌜ length (now ps) ≡ 7 ⌝ }
+    ensures { λ r. ⌜ r ≡ passes (removalChecks (now (ps .entry))) ⌝ }
+{
+    if 2 < ps[6] {
+        return false;
+    }
+    if ps[6] == 0 {
+        return true;
+    }
+    !octets::zero_part(ps, 0, 6)
+}
+
+// Command Complete with the address and type, then Device Removed for each record that goes. Returns the count of octets.
+fn removed_reply(
+    state: &[u8],
+    at: usize,
+    index: u64,
+    all: bool,
+    ps: &[u8],
+    reply: &mut [u8],
+) -> usize
+    requires { ⌜ (at + (4 + 8 * 32) ≤ length (now state)) × (length (now ps) ≡ 7) × (1024 ≤ length (now reply)) ⌝ }
+    ensures { λ r. ⌜
+        (r ≡ 16 + length (I.removals index (named all 7 (now (ps .entry))) (entries (tableAt (now (state .entry)) at 8))))
+        × (now (reply .exit) ≡ writeAt (now (reply .entry)) 0 (commandComplete index 0x0034 0 (now (ps .entry)) ++ I.removals index (named all 7 (now (ps .entry))) (entries (tableAt (now (state .entry)) at 8))))
+        ⌝ }
+{
+    replies::command_complete(reply, 0, index, 0x0034, 0, ps);
+    removals(state, at, index, all, ps, reply, 16)
+}
+
+// 0x0034 Remove Device: one, or all by a zero address and type.
+pub fn remove_device(state: &mut [u8], index: u64, ps: &[u8], reply: &mut [u8]) -> Answer
+    requires { ⌜ Ready (now state) index × (1024 ≤ length (now reply)) ⌝ }
+    ensures { λ r. ⌜ Gives (served (now (state .entry)) index 0x0034 (now (ps .entry)) removeDevice) r (now (reply .entry)) (now (reply .exit)) (now (state .exit)) ⌝ }
+{
+    if ps.len() != 7 {
+        return refuse(reply, index, 0x0034, 0x0D);
+    }
+    if removal_ok(ps) {
+        let all = octets::all_zero(ps);
+        let at = layout::table_place(index, 5);
+        if names_record(state, at, 8, ps, 7, all) {
+            let count = removed_reply(state, at, index, all, ps, reply);
+            release_named(state, at, 8, ps, 7, all);
+            return Answer::Done(count);
+        }
+        return refuse_address(reply, index, 0x0034, 0x0D, ps);
+    }
+    refuse_address(reply, index, 0x0034, 0x0D, ps)
 }
