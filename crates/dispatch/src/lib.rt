@@ -120,13 +120,7 @@ fn settings_command(state: &mut [u8], index: u64, code: u64, ps: &[u8], reply: &
 }
 
 // Read Controller Information or Set Local Name to a present controller.
-fn information_command(
-    state: &mut [u8],
-    index: u64,
-    code: u64,
-    ps: &[u8],
-    reply: &mut [u8],
-) -> Answer
+fn information_command(state: &mut [u8], index: u64, code: u64, ps: &[u8], reply: &mut [u8]) -> Answer
     requires { ⌜ Ready (now state) index × (1024 ≤ length (now reply)) × (member code informationCodes ≡ true) ⌝ }
     ensures { λ r. ⌜ Gives (dispatched (now (state .entry)) index code (now (ps .entry))) r (now (reply .entry)) (now (reply .exit)) (now (state .exit)) ⌝ }
 {
@@ -151,4 +145,67 @@ fn keys_command(state: &mut [u8], index: u64, code: u64, ps: &[u8], reply: &mut 
         return keys::load_identity_keys(state, index, ps, reply);
     }
     keys::unpair_device(state, index, ps, reply)
+}
+
+// A command on UUIDs, blocked devices or devices to a present controller.
+fn devices_command(state: &mut [u8], index: u64, code: u64, ps: &[u8], reply: &mut [u8]) -> Answer
+    requires { ⌜ Ready (now state) index × (1024 ≤ length (now reply)) × (member code deviceCodes ≡ true) ⌝ }
+    ensures { λ r. ⌜ Gives (dispatched (now (state .entry)) index code (now (ps .entry))) r (now (reply .entry)) (now (reply .exit)) (now (state .exit)) ⌝ }
+{
+    if code == 0x10 {
+        return devices::add_uuid(state, index, ps, reply);
+    }
+    if code == 0x11 {
+        return devices::remove_uuid(state, index, ps, reply);
+    }
+    if code == 0x26 {
+        return devices::block_device(state, index, ps, reply);
+    }
+    if code == 0x27 {
+        return devices::unblock_device(state, index, ps, reply);
+    }
+    if code == 0x33 {
+        return devices::add_device(state, index, ps, reply);
+    }
+    devices::remove_device(state, index, ps, reply)
+}
+
+// A command to a present controller.
+fn controller_command(state: &mut [u8], index: u64, code: u64, ps: &[u8], reply: &mut [u8]) -> Answer
+    requires { ⌜ Ready (now state) index × (1024 ≤ length (now reply)) × (member code controllerCodes ≡ true) ⌝ }
+    ensures { λ r. ⌜ Gives (dispatched (now (state .entry)) index code (now (ps .entry))) r (now (reply .entry)) (now (reply .exit)) (now (state .exit)) ⌝ }
+{
+    if is_settings(code) {
+        return settings_command(state, index, code, ps, reply);
+    }
+    if is_keys(code) {
+        return keys_command(state, index, code, ps, reply);
+    }
+    if is_devices(code) {
+        return devices_command(state, index, code, ps, reply);
+    }
+    information_command(state, index, code, ps, reply)
+}
+
+// A command by its parts, on a well-formed state and with room for a reply.
+pub fn dispatch(state: &mut [u8], index: u64, code: u64, ps: &[u8], reply: &mut [u8]) -> Answer
+    requires { ⌜ (stateOk (now state) ≡ true) × (length (now state) ≡ 16116) × (1024 ≤ length (now reply)) ⌝ }
+    ensures { λ r. ⌜ Gives (dispatched (now (state .entry)) index code (now (ps .entry))) r (now (reply .entry)) (now (reply .exit)) (now (state .exit)) ⌝ }
+{
+    if code == 0x01 {
+        return information::read_version(state, index, ps, reply);
+    }
+    if code == 0x02 {
+        return information::read_commands(state, index, ps, reply);
+    }
+    if code == 0x03 {
+        return information::read_indexes(state, index, ps, reply);
+    }
+    if to_controller(code) {
+        if layout::present(state, index) {
+            return controller_command(state, index, code, ps, reply);
+        }
+        return devices::refuse(reply, index, code, 0x11);
+    }
+    devices::refuse(reply, index, code, 0x01)
 }
