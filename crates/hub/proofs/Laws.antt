@@ -5,11 +5,13 @@ use native.Mathlib.Omega.{arith}
 use mathlib.Core.Path.{_≡_, refl, sym, ap, _∙_}
 use mathlib.Core.Bool.{Bool, true, false, _&&_}
 use mathlib.Core.List.{List, [], _∷_}
-use lib.ListN.{length, drop, length-drop}
-use lib.Dec.{eqb, leb}
+use lib.ListN.{length, take, drop, length-drop}
+use lib.Seq.{take-all}
+use lib.Dec.{eqb, leb, leb→le}
 use borrow.Author.Tests.{le-leb, lt-leb}
 use Rattle.model.specs.Octets.{Octets, u16}
 use Rattle.model.specs.Hub.{packetOk, paramsOf}
+use Rattle.model.specs.Proof.Tests.{and-true}
 use Rattle.replies.specs.Answers.{numberOf}
 use Rattle.replies.specs.declared.Answer.{Answer}
 use Rattle.replies.specs.declared.Answer.the-variants.{Done, Started, Refused, BadPacket, SmallBuffer, BadState, BadArgument, BadImage}
@@ -34,3 +36,12 @@ number-small SmallBuffer = omega arith
 number-small BadState = omega arith
 number-small BadArgument = omega arith
 number-small BadImage = omega arith
+
+-- a whole packet has a header
+pub packet-long : (p : Octets) → packetOk p ≡ true → 6 ≤ length p
+unfolding packetOk
+packet-long p e = leb→le 6 (length p) (rw (and-true (leb 6 (length p)) _ e .0) tt)
+
+-- the octets behind the header, lent as a part of the packet
+pub params-all : (p : Octets) → take (length p - 6) (drop 6 p) ≡ drop 6 p
+params-all p = take-all (length p - 6) (drop 6 p) (rw length-drop (omega arith))

@@ -27,6 +27,24 @@ fn pack(a: Answer) -> u64
     replies::number(a) + 256 * n
 }
 
+// A command packet: state, room, frame, then the function that serves its code.
+fn command(state: &mut [u8], packet: &[u8], reply: &mut [u8]) -> Answer
+    ensures { λ r. ⌜ Gives (meaning (now (state .entry)) (M.command (length (now (reply .entry))) (now (packet .entry)))) r (now (reply .entry)) (now (reply .exit)) (now (state .exit)) ⌝ }
+{
+    if checks::well_formed(state) {
+        if 1024 <= reply.len() {
+            if framed(packet) {
+                let code = octets::u16_at(packet, 0);
+                let index = octets::u16_at(packet, 2);
+                return dispatch::dispatch(state, index, code, &packet[6..], reply);
+            }
+            return Answer::BadPacket;
+        }
+        return Answer::SmallBuffer;
+    }
+    Answer::BadState
+}
+
 // A report of the radio.
 fn report(state: &mut [u8], index: u64, status: u64, reply: &mut [u8]) -> Answer
     ensures { λ r. ⌜ Gives (meaning (now (state .entry)) (M.report (length (now (reply .entry))) index status)) r (now (reply .entry)) (now (reply .exit)) (now (state .exit)) ⌝ }
@@ -90,6 +108,15 @@ fn save(state: &[u8], reply: &mut [u8]) -> Answer
         return Answer::SmallBuffer;
     }
     Answer::BadState
+}
+
+// C's call of a command.
+#[no_mangle]
+pub extern "C" fn hub_command(state: &mut [u8], packet: &[u8], reply: &mut [u8]) -> u64
+    ensures { λ r. ⌜ Returns (hubCommand (now (state .entry)) (now (packet .entry)) (length (now (reply .entry)))) r (now (reply .entry)) (now (reply .exit)) (now (state .exit)) ⌝ }
+{
+    let a = command(state, packet, reply);
+    pack(a)
 }
 
 // C's call of a report.

@@ -1,0 +1,92 @@
+-- A command: the state, the room, the frame, then the function that serves the code.
+use mathlib.Core.Path.{_≡_, refl, sym, ap, _∙_, subst}
+use mathlib.Core.List.{List, [], _∷_, _++_}
+use Prim.Native.Nat.{ℕ, zero, suc, _+_, _-_, _*_, _≤_, _<_}
+use native.Mathlib.Omega.{arith}
+use lib.ListN.{length, take, drop, getD, set, length-set}
+use borrow.Author.Needs.{needs}
+use Rattle.model.specs.Proof.Demand3.{state-long}
+use Rattle.hub.specs.Entries.{gives-bad}
+use Rattle.hub.proofs.Laws.{packet-long, params-all}
+use Rattle.hub.proofs.Bridge.{command-done, command-no-packet, command-no-room}
+use Rattle.hub.proofs.command.Statement.{statement}
+use Rattle.hub.proofs.command.Tie as tie
+use Rattle.hub.proofs.command.Reads as reads
+use Rattle.hub.proofs.command.Lts as lts
+use Rattle.hub.proofs.framed.Reads as framed-reads
+use Rattle.checks.proofs.well_formed.Reads as well-formed-reads
+use Rattle.dispatch.proofs.dispatch.Reads as dispatch-reads
+use Rattle.octets.proofs.u16_at.Reads as u16-at-reads
+
+well-formed-requires : tie.Need-well-formed-requires
+well-formed-requires c κs = search needs
+
+framed-requires : tie.Need-framed-requires
+framed-requires c κs = search needs
+
+u16-at-requires : tie.Need-u16-at-requires
+u16-at-requires c κs = omega (arith, packet-long _ (sym (c .before .framed .ensures) ∙ c .if3 .taken))
+
+u16-at-requires-2 : tie.Need-u16-at-requires-2
+u16-at-requires-2 c κs = omega (arith, packet-long _ (sym (c .before .before .framed .ensures) ∙ c .before .if3 .taken))
+
+sub-dispatch : tie.Need-sub-dispatch
+sub-dispatch c = omega (arith, packet-long _ (sym (c .before .before .before .before .framed .ensures) ∙ c .before .before .before .if3 .taken))
+
+part-dispatch-start : tie.Need-part-dispatch-start
+part-dispatch-start c = omega (arith, packet-long _ (sym (c .before .before .before .before .framed .ensures) ∙ c .before .before .before .if3 .taken))
+
+part-dispatch-end : tie.Need-part-dispatch-end
+part-dispatch-end c = search needs
+
+dispatch-requires : tie.Need-dispatch-requires
+dispatch-requires c κs = ((sym (c .before .before .before .before .before .before .before .before .before .well-formed .ensures) ∙ c .before .before .before .before .before .before .before .before .if1 .taken), state-long _ (sym (c .before .before .before .before .before .before .before .before .before .well-formed .ensures) ∙ c .before .before .before .before .before .before .before .before .if1 .taken), search needs)
+
+same-length : tie.Need-same-length
+same-length c = search needs
+
+same-length-2 : tie.Need-same-length-2
+same-length-2 c = search needs
+
+returns : tie.Need-returns
+returns c = command-done _ _ _ _ _ _ _ _ _ (sym (c .before .before .before .before .before .before .before .before .before .before .before .before .before .before .well-formed .ensures) ∙ c .before .before .before .before .before .before .before .before .before .before .before .before .before .if1 .taken) (c .before .before .before .before .before .before .before .before .before .before .before .before .if2 .taken) (sym (c .before .before .before .before .before .before .before .before .before .before .before .framed .ensures) ∙ c .before .before .before .before .before .before .before .before .before .before .if3 .taken) (c .before .before .before .before .before .before .before .before .before .u16-at .ensures .0) (c .before .before .before .before .before .before .before .before .u16-at2 .ensures .0) (rw (params-all (c .before .before .before .before .before .before .before .before .before .before .before .before .before .before .before .before .before .before .before .args .packet .now)) at (c .before .before .before .before .dispatch .ensures))
+
+same-length-3 : tie.Need-same-length-3
+same-length-3 c = search needs
+
+returns-2 : tie.Need-returns-2
+returns-2 c = command-no-packet _ _ _ _ (sym (c .before .before .before .before .well-formed .ensures) ∙ c .before .before .before .if1 .taken) (c .before .before .if2 .taken) (sym (c .before .framed .ensures) ∙ c .if3 .left)
+
+same-length-4 : tie.Need-same-length-4
+same-length-4 c = search needs
+
+returns-3 : tie.Need-returns-3
+returns-3 c = command-no-room _ _ _ _ (sym (c .before .before .well-formed .ensures) ∙ c .before .if1 .taken) (c .if2 .left)
+
+same-length-5 : tie.Need-same-length-5
+same-length-5 c = search needs
+
+returns-4 : tie.Need-returns-4
+returns-4 c = gives-bad _ _ _ _ (sym (c .before .well-formed .ensures) ∙ c .if1 .left) refl
+
+pub command-spec : {M : Type 1} → statement M
+command-spec =
+    tie.close
+    (tie.spec
+    well-formed-requires
+    framed-requires
+    u16-at-requires
+    u16-at-requires-2
+    sub-dispatch
+    part-dispatch-start
+    part-dispatch-end
+    dispatch-requires
+    same-length
+    same-length-2
+    returns
+    same-length-3
+    returns-2
+    same-length-4
+    returns-3
+    same-length-5
+    returns-4)
