@@ -1,3 +1,4 @@
 pub mod Filling
 pub mod Controllers
 pub mod Loading
+pub mod Checking

@@ -2,11 +2,13 @@
 ghost use mathlib.Core.Path.{_≡_};
 ghost use mathlib.Core.Bool.{false, true};
 ghost use mathlib.Core.Option.{none, some};
-ghost use mathlib.Core.List.{List};
+ghost use mathlib.Core.List.{List, _∷_};
 ghost use Prim.Native.Nat.{_+_, _≤_, _<_};
 ghost use lib.ListN.{length, drop};
 ghost use Rattle.model.specs.State.{Controller, PlainHub, Table, idle};
-ghost use Rattle.model.specs.Tables.{tableRules};
+ghost use Rattle.model.specs.declared.Hardware.{Hardware};
+ghost use Rattle.model.specs.Tables.{TableRule, tableRules};
+ghost use Rattle.model.specs.Proof.Rows.{ruleAt};
 ghost use Rattle.model.specs.Image.{Parsed, load, parseController, parseTables};
 ghost use Rattle.model.specs.Layout.{decode, encode};
 ghost use Rattle.model.specs.Meanings.{stateOk};
@@ -14,6 +16,7 @@ ghost use Rattle.layout.specs.Places.{Ready, controllerOf, openAt, presentAt, p
 ghost use Rattle.restore.specs.Filling.{found, withTables};
 ghost use Rattle.restore.specs.Controllers.{imageSettings};
 ghost use Rattle.restore.specs.Loading.{accepted};
+ghost use Rattle.restore.specs.Checking.{behindOf, tablesFrom};
 use model::Hardware;
 use model::HostSettings;
 use model::RadioSettings;
@@ -97,4 +100,32 @@ pub fn fill(state: &mut [u8], image: &[u8])
         at = fill_controller(state, image[at] as u64, image, at + 1);
         left = left - 1;
     }
+}
+
+// The place behind the table k that lies at a place of the image, if it keeps its rules; else 0.
+fn table_ends(k: usize, image: &[u8], place: usize, supported: u32) -> usize
+    requires { ⌜ k < 6 ⌝ }
+    ensures { λ r. ⌜ (r ≤ length (now (image .entry))) × ((us : List TableRule) (f : Hardware) → f .supported ≡ supported → behindOf (parseTables f (ruleAt k ∷ us) (drop place (now (image .entry)))) ≡ tablesFrom f us (now (image .entry)) r) ⌝ }
+{
+    if image.len() <= place {
+        return 0;
+    }
+    let n = image[place] as usize;
+    if 32 < n {
+        return 0;
+    }
+    let size = records::size_of(k);
+    if image.len() - place - 1 < size * n {
+        return 0;
+    }
+    if records::keeps_rule(k, image, place + 1, n, records::list_word(n)) {
+        if n == 0 {
+            return place + 1;
+        }
+        if records::supports(k, supported) {
+            return place + 1 + size * n;
+        }
+        return 0;
+    }
+    0
 }
