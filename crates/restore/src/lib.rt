@@ -16,7 +16,7 @@ ghost use Rattle.layout.specs.Places.{Ready, controllerOf, openAt, presentAt, p
 ghost use Rattle.restore.specs.Filling.{found, withTables};
 ghost use Rattle.restore.specs.Controllers.{imageSettings};
 ghost use Rattle.restore.specs.Loading.{accepted};
-ghost use Rattle.restore.specs.Checking.{behindOf, tablesFrom};
+ghost use Rattle.restore.specs.Checking.{behindOf, endAt, fixedOk, tablesFrom};
 use model::Hardware;
 use model::HostSettings;
 use model::RadioSettings;
@@ -124,6 +124,58 @@ fn table_ends(k: usize, image: &[u8], place: usize, supported: u32) -> usize
         }
         if records::supports(k, supported) {
             return place + 1 + size * n;
+        }
+        return 0;
+    }
+    0
+}
+
+// The place behind the six tables that lie at a place of the image, if they keep their rules; else 0.
+fn tables_end(image: &[u8], place: usize, supported: u32) -> usize
+    requires { ⌜ (0 < place) × (place ≤ length (now image)) ⌝ }
+    ensures { λ r. ⌜ (r ≤ length (now (image .entry))) × ((f : Hardware) → f .supported ≡ supported → behindOf (parseTables f tableRules (drop place (now (image .entry)))) ≡ endAt (now (image .entry)) r) ⌝ }
+{
+    let mut p = place;
+    let mut k: usize = 0;
+    while k < 6 {
+        p = table_ends(k, image, p, supported);
+        if p == 0 {
+            return 0;
+        }
+        k += 1;
+    }
+    p
+}
+
+// Whether flags and name of the controller at a place of the image keep their rules: only bits 1, 4 and 9, and both names end in zero.
+fn fixed_ok(image: &[u8], at: usize) -> bool
+    requires { ⌜ at + 283 ≤ length (now image) ⌝ }
+    ensures { λ r. ⌜ r ≡ fixedOk (now (image .entry)) at ⌝ }
+{
+    let flags = octets::be32_at(image, at + 13);
+    if flags == flags / 2 % 2 * 2 + flags / 16 % 2 * 16 + flags / 512 % 2 * 512 {
+        if image[at + 271] == 0 {
+            return image[at + 282] == 0;
+        }
+        return false;
+    }
+    false
+}
+
+// The place behind the controller that lies at a place of the image, behind its index, if it keeps every rule; else 0.
+fn controller_ends(image: &[u8], at: usize) -> usize
+    requires { ⌜ at ≤ length (now image) ⌝ }
+    ensures { λ r. ⌜ (r ≤ length (now (image .entry))) × (behindOf (parseController (drop at (now (image .entry)))) ≡ endAt (now (image .entry)) r) ⌝ }
+{
+    if image.len() - at < 283 {
+        return 0;
+    }
+    let m = settings_in(image, at);
+    let r = m.radio;
+    let f = r.hardware;
+    if rules::radio_ok(r) {
+        if fixed_ok(image, at) {
+            return tables_end(image, at + 283, f.supported);
         }
         return 0;
     }
