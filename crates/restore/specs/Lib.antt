@@ -2,3 +2,4 @@ pub mod Filling
 pub mod Controllers
 pub mod Loading
 pub mod Checking
+pub mod Accepting

@@ -4,24 +4,29 @@ ghost use mathlib.Core.Bool.{false, true};
 ghost use mathlib.Core.Option.{none, some};
 ghost use mathlib.Core.List.{List, _∷_};
 ghost use Prim.Native.Nat.{_+_, _≤_, _<_};
-ghost use lib.ListN.{length, drop};
+ghost use lib.ListN.{length, drop, getD};
 ghost use Rattle.model.specs.State.{Controller, PlainHub, Table, idle};
 ghost use Rattle.model.specs.declared.Hardware.{Hardware};
 ghost use Rattle.model.specs.Tables.{TableRule, tableRules};
 ghost use Rattle.model.specs.Proof.Rows.{ruleAt};
-ghost use Rattle.model.specs.Image.{Parsed, load, parseController, parseTables};
+ghost use Rattle.model.specs.Image.{Parsed, parseController, parseTables};
+ghost use Rattle.model.specs.Image as I;
 ghost use Rattle.model.specs.Layout.{decode, encode};
 ghost use Rattle.model.specs.Meanings.{stateOk};
 ghost use Rattle.layout.specs.Places.{Ready, controllerOf, openAt, presentAt, putController};
+ghost use Rattle.model.specs.Meanings.{hubLoad};
+ghost use Rattle.replies.specs.Answers.{countOf, numberOf};
 ghost use Rattle.restore.specs.Filling.{found, withTables};
 ghost use Rattle.restore.specs.Controllers.{imageSettings};
 ghost use Rattle.restore.specs.Loading.{accepted};
+ghost use Rattle.restore.specs.Accepting.{scans};
 ghost use Rattle.restore.specs.Checking.{behindOf, endAt, fixedOk, tablesFrom};
 use model::Hardware;
 use model::HostSettings;
 use model::RadioSettings;
 use model::Settings;
 use model::Timer;
+use replies::Answer;
 
 // Fills the six tables of the controller at an index from those that lie at a place of the image. Gives the place behind them.
 fn fill_tables(state: &mut [u8], index: u64, image: &[u8], at: usize) -> usize
@@ -91,7 +96,7 @@ fn fill_controller(state: &mut [u8], index: u64, image: &[u8], at: usize) -> usi
 // Fills the state from an image that was accepted.
 pub fn fill(state: &mut [u8], image: &[u8])
     requires { ⌜ (length (now state) ≡ 16116) × (accepted (now image) ≡ true) ⌝ }
-    ensures { λ _. ⌜ ((p : PlainHub) → load (now (image .entry)) ≡ some p → now (state .exit) ≡ encode (idle p)) ⌝ }
+    ensures { λ _. ⌜ ((p : PlainHub) → I.load (now (image .entry)) ≡ some p → now (state .exit) ≡ encode (idle p)) ⌝ }
 {
     octets::zero_fill(state, 0, 16116);
     let mut left = image[5];
@@ -180,4 +185,66 @@ fn controller_ends(image: &[u8], at: usize) -> usize
         return 0;
     }
     0
+}
+
+// Whether the controllers of an image keep every rule: ascending indexes, at most 3, and nothing left over.
+fn controllers_ok(image: &[u8]) -> bool
+    requires { ⌜ 6 ≤ length (now image) ⌝ }
+    ensures { λ r. ⌜ r ≡ scans (getD (now (image .entry)) 5 0) 0 (drop 6 (now (image .entry))) ⌝ }
+{
+    let mut left = image[5];
+    let mut low: u8 = 0;
+    let mut at: usize = 6;
+    while 0 < left {
+        if image.len() <= at {
+            return false;
+        }
+        let index = image[at];
+        if index < low {
+            return false;
+        }
+        if 3 < index {
+            return false;
+        }
+        at = controller_ends(image, at + 1);
+        if at == 0 {
+            return false;
+        }
+        low = index + 1;
+        left = left - 1;
+    }
+    if at == image.len() {
+        return true;
+    }
+    false
+}
+
+// Whether an image keeps every rule: its length, its version and its controllers.
+pub fn image_ok(image: &[u8]) -> bool
+    ensures { λ r. ⌜ r ≡ accepted (now (image .entry)) ⌝ }
+{
+    if image.len() < 6 {
+        return false;
+    }
+    if octets::be32_at(image, 0) == image.len() as u64 {
+        if image[4] == 1 {
+            return controllers_ok(image);
+        }
+        return false;
+    }
+    false
+}
+
+// Load: the state that an image gives, if the state buffer has its length and the image keeps every rule; else nothing is written.
+pub fn load(state: &mut [u8], image: &[u8]) -> Answer
+    ensures { λ r. ⌜ (numberOf r ≡ hubLoad (now (state .entry)) (now (image .entry)) .answer) × (countOf r ≡ 0) × (now (state .exit) ≡ hubLoad (now (state .entry)) (now (image .entry)) .state) ⌝ }
+{
+    if state.len() == 16116 {
+        if image_ok(image) {
+            fill(state, image);
+            return Answer::Done(0);
+        }
+        return Answer::BadImage;
+    }
+    Answer::BadState
 }
