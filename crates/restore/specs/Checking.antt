@@ -99,7 +99,7 @@ module _ (u : TableRule) (f : Hardware) (us : List TableRule) (image : Octets) (
   pub table-is : p < length image
       → behindOf (parseTables f (u ∷ us) (drop p image))
       ≡ keptIf (leb (getD image p 0) 32 && (leb (u .size * getD image p 0) (length image - p - 1) && (recordsOk u (recordsAt image (u .size) (p + 1) (getD image p 0) (2 ^ getD image p 0 - 1)) && (eqb (getD image p 0) 0 || passes (u .support f)))))
-        (tablesFrom f us image (p + 1 + u .size * getD image p 0))
+      (tablesFrom f us image (p + 1 + u .size * getD image p 0))
   unfolding parseTables supportOk
   table-is l =
       let n : ℕ = getD image p 0 in
