@@ -12,7 +12,7 @@ use borrow.Author.Tests.{eq-eqb, ne-eqb, le-leb, lt-leb}
 use Rattle.model.specs.Octets.{Octets, number}
 use Rattle.model.specs.State.{Controller, PlainHub, idle}
 use Rattle.model.specs.Image.{Parsed, load, parseController, parseControllers}
-use Rattle.model.specs.Layout.{encode, stateLength}
+use Rattle.model.specs.Layout.{encode}
 use Rattle.model.specs.Meanings.{badState, hubLoad, loadMeaning, loadedInto}
 use Rattle.model.specs.Proof.Tests.{no-way}
 use Rattle.octets.specs.Parts.{part}

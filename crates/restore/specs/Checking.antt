@@ -6,23 +6,22 @@ use native.Mathlib.Nat.{mul-le-mul-left}
 use mathlib.Core.Bool.{Bool, true, false, _&&_, _||_}
 use mathlib.Core.List.{List, [], _∷_}
 use mathlib.Core.Option.{Option, none, some}
-use lib.ListN.{length, getD, take, drop, set, replicate, length-drop, drop-of-length-le}
+use lib.ListN.{length, getD, take, drop, length-drop, drop-of-length-le}
 use lib.Seq.{drop-cons, drop-drop}
 use lib.Dec.{eqb, leb}
 use borrow.Author.Tests.{eq-eqb, ne-eqb, le-leb, lt-leb}
 use Rattle.model.specs.declared.Hardware.{Hardware}
 use Rattle.model.specs.declared.Settings.{Settings}
 use Rattle.model.specs.Octets.{Octets, bit, number, octet}
-use Rattle.model.specs.State.{Controller, PlainHub, Table, flag, nameEnds, noTimer, shortNameEnds}
+use Rattle.model.specs.State.{Controller, Table, flag, nameEnds, noTimer, shortNameEnds}
 use Rattle.model.specs.Reasons.{passes}
 use Rattle.model.specs.Tables.{TableRule, chop, empty, loaded, recordsOk, supportOk, tableRules, uuidRule, linkKeyRule, longTermKeyRule, identityKeyRule, blockedRule, deviceRule}
-use Rattle.model.specs.Image.{Parsed, controllerThen, flagsOk, load, nameOk, parseController, parseControllers, parseRadio, parseTables, radioOk, tableThen}
+use Rattle.model.specs.Image.{Parsed, controllerThen, flagsOk, nameOk, parseController, parseRadio, parseTables, radioOk, tableThen}
 use Rattle.model.specs.Proof.Rows.{ruleAt}
 use Rattle.records.specs.Slots.{recordsAt, list-records}
 use Rattle.octets.specs.Parts.{part, getD-part}
 use Rattle.restore.specs.Filling.{found, rule-next}
 use Rattle.restore.specs.Controllers.{imageSettings}
-use Rattle.restore.specs.Loading.{accepted}
 
 -- 1. Places ------------------------------------------------------------------------------------------------------------------------------------
 

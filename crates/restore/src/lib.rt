@@ -1,4 +1,4 @@
-// The state filled from an image that was accepted: one controller after the other, each from its fixed part and its six tables.
+// An image checked and loaded: one controller after the other, each by its fixed part and its six tables.
 ghost use mathlib.Core.Path.{_≡_};
 ghost use mathlib.Core.Bool.{false, true};
 ghost use mathlib.Core.Option.{none, some};
