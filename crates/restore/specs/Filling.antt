@@ -174,7 +174,7 @@ pub record FillingTables (h : Hub) (i : ℕ) (image : Octets) (d : Controller) (
   pub behind : left .behind ≡ e
 
 -- the rules from k on begin with rule k
-rule-next : (k : ℕ) → k < 6 → drop k tableRules ≡ ruleAt k ∷ drop (suc k) tableRules
+pub rule-next : (k : ℕ) → k < 6 → drop k tableRules ≡ ruleAt k ∷ drop (suc k) tableRules
 unfolding ruleAt tableRules
 rule-next k l = drop-cons tableRules k uuidRule l
 
