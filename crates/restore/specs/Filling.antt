@@ -5,7 +5,7 @@ use native.Mathlib.Omega.{arith}
 use mathlib.Core.Bool.{Bool, true, false, _&&_}
 use mathlib.Core.List.{List, [], _∷_}
 use mathlib.Core.Option.{Option, none, some}
-use lib.ListN.{length, getD, drop, set, drop-of-length-le}
+use lib.ListN.{length, getD, drop, drop-of-length-le}
 use lib.Seq.{drop-cons, drop-drop, set-getD, set-set}
 use lib.Dec.{leb, ltb}
 use Rattle.model.specs.declared.Hardware.{Hardware}
@@ -264,9 +264,11 @@ module _ (s₀ : Octets) (i : ℕ) (image : Octets) (at : ℕ) (w : bytes image 
       → t ≡ writeAt s place (region z (loaded (chop z n (drop (p + 1) image)))) → TablesLeft s₀ i image at s k p → TablesLeft s₀ i image at t (k + 1) (p + 1 + z * n)
   tables-turn s t k p n z place l en ez ep q x =
       let f : k + 1 ≡ suc k = omega arith in
-      record { known = λ m e.
-      rw (f, en, ez)
-      (table-turn (decode s₀) i image (withTables (controllerOf s₀ i) 0 (m .value)) (m .behind) w s k p l (x .known m e) t (rw (en, ez, ep) at q)) }
+      record {
+        known = λ m e.
+            rw (f, en, ez)
+            (table-turn (decode s₀) i image (withTables (controllerOf s₀ i) 0 (m .value)) (m .behind) w s k p l (x .known m e) t (rw (en, ez, ep) at q));
+      }
 
 -- at the end the state has them all
 pub tables-last : (s₀ : Octets) (i : ℕ) (image : Octets) (at : ℕ) (s : Octets) (k p : ℕ) → 6 ≤ k → TablesLeft s₀ i image at s k p

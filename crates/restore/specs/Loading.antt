@@ -7,7 +7,7 @@ use mathlib.Core.List.{List, [], _∷_}
 use mathlib.Core.Option.{Option, none, some}
 use lib.ListN.{length, getD, take, drop, replicate, set, length-set}
 use lib.Seq.{getD-set-other}
-use lib.Dec.{eqb, leb, ltb}
+use lib.Dec.{eqb, leb}
 use borrow.Author.Tests.{lt-ltb}
 use Rattle.model.specs.Octets.{Octets, bytes, number}
 use Rattle.model.specs.State.{Controller, PlainHub, controllerAt, fresh, idle, withController}
@@ -170,9 +170,11 @@ image-long image a = let q = found-some (load image) a in image-begins image (q 
 -- in the fresh state, all controllers are left
 pub loads-first : (image s : Octets) → s ≡ encode (idle fresh) → Loads image s (getD image 5 0) 6
 unfolding fresh plainOk slotsOk slotOk
-loads-first image s e = record { known = λ h q.
+loads-first image s e = record {
+  known = λ h q.
       let b = image-begins image h q in
-      record { controllers = replicate 4 none; low = 0; fine = refl; state = e; free = λ j m. fresh-free j; left = b .1; zero = b .2 } }
+      record { controllers = replicate 4 none; low = 0; fine = refl; state = e; free = λ j m. fresh-free j; left = b .1; zero = b .2 };
+}
 
 module _ (image : Octets) (w : bytes image ≡ true) (a : accepted image ≡ true) (s : Octets) (n p : ℕ) (l : 0 < n) (x : Loads image s n p) where
   -- one of them
