@@ -1,21 +1,21 @@
 -- The controllers of an image, read one after the other and put into the state.
 use mathlib.Core.Path.{_≡_, refl, ap, sym, _∙_}
-use Prim.Native.Nat.{ℕ, zero, suc, _+_, _-_, _/_, _%_, _≤_, _<_}
+use Prim.Native.Nat.{ℕ, suc, _+_, _-_, _/_, _%_, _≤_, _<_}
 use native.Mathlib.Omega.{arith}
-use mathlib.Core.Bool.{Bool, true, false, _&&_}
+use mathlib.Core.Bool.{true, false, _&&_}
 use mathlib.Core.List.{List, [], _∷_, append-nil}
 use mathlib.Core.Option.{Option, none, some}
-use lib.ListN.{length, getD, take, drop, set, replicate, length-drop, length-take, length-set, drop-of-length-le}
+use lib.ListN.{length, getD, take, drop, replicate, length-drop, length-take, drop-of-length-le}
 use lib.Seq.{drop-drop, getD-drop, sets, sets-eq}
-use lib.Dec.{eqb, leb, ltb}
+use lib.Dec.{eqb, leb}
 use Rattle.model.specs.declared.Hardware.{Hardware}
 use Rattle.model.specs.declared.RadioSettings.{RadioSettings}
 use Rattle.model.specs.declared.Settings.{Settings}
 use Rattle.model.specs.Octets.{Octets, bit, bytes, number}
-use Rattle.model.specs.State.{Controller, Hub, PlainHub, Table, hardwareOk, noTables, noTimer, plugged, withHost, withName, withTable}
+use Rattle.model.specs.State.{Controller, Table, hardwareOk, noTables, noTimer, plugged, withHost, withName, withTable}
 use Rattle.model.specs.Tables.{TableRule, tableRules}
 use Rattle.model.specs.Image.{Parsed, controllerThen, flagsOk, nameOk, parseController, parseRadio, parseTables, radioOk}
-use Rattle.model.specs.WellFormed.{controllerOk, hardwareWide, tableOk, tablesOk, timerOk, widthsOk}
+use Rattle.model.specs.WellFormed.{controllerOk, hardwareWide, tableOk, tablesOk, timerOk}
 use Rattle.model.specs.Hub.{underWay}
 use Rattle.model.specs.Layout.{decode, encode}
 use Rattle.model.specs.Meanings.{stateOk}
@@ -147,10 +147,6 @@ unfolding hardwareWide
 hardware-wide c e = let x = widths-fit c e in both (both (x .version) (x .manufacturer)) (x .publicAddress)
 
 module _ (s₀ : Octets) (i : ℕ) (o : Octets) (c : Parsed Controller) (ok : stateOk s₀ ≡ true) (l : i < 4) (gone : presentAt s₀ i ≡ false) (y : OneController o c) where
-  -- the controller with a name, before its tables
-  bare : Octets → Controller
-  bare n = controllerWith o n noTables
-
   -- the controller that was read
   read-fine : controllerOk (controllerWith o (take 260 (drop 23 o)) (y .tables .value)) ≡ true
   read-fine = rw (y .value) (y .fine)

@@ -7,7 +7,7 @@ use mathlib.Core.List.{List, [], _∷_}
 use mathlib.Core.Option.{Option, none, some}
 use lib.ListN.{length, getD, take, drop, replicate, set, length-set}
 use lib.Seq.{getD-set-other}
-use lib.Dec.{eqb, leb, ltb}
+use lib.Dec.{eqb, leb}
 use borrow.Author.Tests.{lt-ltb}
 use Rattle.model.specs.Octets.{Octets, bytes, number}
 use Rattle.model.specs.State.{Controller, PlainHub, controllerAt, fresh, idle, withController}

@@ -1,20 +1,16 @@
 -- `restore::fill` meets its contract. The invariant: so many controllers are left at that place of the image.
-use mathlib.Core.Path.{_≡_, refl, sym, ap, _∙_, subst}
-use mathlib.Core.List.{List, [], _∷_, _++_}
-use mathlib.Core.Logic.{⊎-elim}
-use Prim.Native.Nat.{ℕ, zero, suc, _+_, _-_, _*_, _≤_, _<_}
+use mathlib.Core.Path.{_≡_, refl, _∙_}
+use Prim.Native.Nat.{_-_}
 use native.Mathlib.Omega.{arith}
-use lib.ListN.{length, take, drop, getD, set, length-set}
+use lib.ListN.{length}
+use mathlib.Core.Bool.{true}
+use Rattle.model.specs.Octets.{bytes}
 use Rattle.layout.specs.Filled.{state-cleared}
 use Rattle.restore.specs.Filling.{slice-bytes}
 use Rattle.restore.specs.Loading.{Loads, image-long, loads-first, loads-last, loads-ready, loads-turn}
 use borrow.Author.Needs.{needs}
 use Rattle.restore.proofs.fill.Statement.{statement}
 use Rattle.restore.proofs.fill.Tie as tie
-use Rattle.restore.proofs.fill.Reads as reads
-use Rattle.restore.proofs.fill.Lts as lts
-use Rattle.octets.proofs.zero_fill.Reads as zero-fill-reads
-use Rattle.restore.proofs.fill_controller.Reads as fill-controller-reads
 
 abbrev Inv-loop : tie.InvT-loop
 Inv-loop state₀ image left₀ at₀ state left at = (length state ≡ 16116) × Loads image state left at
@@ -22,51 +18,43 @@ Inv-loop state₀ image left₀ at₀ state left at = (length state ≡ 16116) �
 abbrev μ-loop : tie.MeasureT-loop
 μ-loop state₀ image left₀ at₀ state left at = left
 
--- src/lib.rt:93:5
+-- the image is octets
+wide : (c : tie.After-shared-slice-known Inv-loop μ-loop) → bytes (c .before .before .args .image .now) ≡ true
+wide c = slice-bytes _ (λ j. omega (arith, c .shared-slice-known .given j))
+
 zero-fill-requires : tie.Need-zero-fill-requires Inv-loop μ-loop
 zero-fill-requires c κs = search needs
 
--- src/lib.rt:94:20
 shared-slice-read-left : tie.Need-shared-slice-read-left Inv-loop μ-loop
 shared-slice-read-left c = let g = image-long _ (c .before .before .before .before .before .before .before .pre .1) in omega arith
 
--- src/lib.rt:96:5
 loop-holds : tie.Need-loop-holds Inv-loop μ-loop
 loop-holds c = (search needs, loads-first _ _ (c .before .before .before .zero-fill .ensures ∙ state-cleared _ _ (c .before .before .before .before .before .before .before .pre .0) refl))
 
--- src/lib.rt:97:37
 shared-slice-read-fill-controller : tie.Need-shared-slice-read-fill-controller Inv-loop μ-loop
-shared-slice-read-fill-controller c = loads-ready _ (slice-bytes _ (λ j. omega (arith, c .before .before .before .before .before .before .before .before .before .shared-slice-known .given j))) (c .before .before .before .before .before .before .before .before .before .before .before .pre .1) _ _ _ (c .before .before .loop-test .taken) (c .before .before .before .loop .inv .1) .0
+shared-slice-read-fill-controller c = loads-ready _ (wide (c .before .before .before .before .before .before .before .before .before)) (c .before .before .before .before .before .before .before .before .before .before .before .pre .1) _ _ _ (c .before .before .loop-test .taken) (c .before .before .before .loop .inv .1) .0
 
--- src/lib.rt:97:37
 cast-fill-controller : tie.Need-cast-fill-controller Inv-loop μ-loop
 cast-fill-controller c = omega (arith, c .before .before .before .before .before .before .before .before .before .shared-slice-known .given (c .before .before .before .loop .at))
 
--- src/lib.rt:97:62
 add-fill-controller : tie.Need-add-fill-controller Inv-loop μ-loop
-add-fill-controller c = let g = loads-ready _ (slice-bytes _ (λ j. omega (arith, c .before .before .before .before .before .before .before .before .before .shared-slice-known .given j))) (c .before .before .before .before .before .before .before .before .before .before .before .pre .1) _ _ _ (c .before .before .loop-test .taken) (c .before .before .before .loop .inv .1) in omega (arith, g .0)
+add-fill-controller c = let g = loads-ready _ (wide (c .before .before .before .before .before .before .before .before .before)) (c .before .before .before .before .before .before .before .before .before .before .before .pre .1) _ _ _ (c .before .before .loop-test .taken) (c .before .before .before .loop .inv .1) in omega (arith, g .0)
 
--- src/lib.rt:97:9
 fill-controller-requires : tie.Need-fill-controller-requires Inv-loop μ-loop
-fill-controller-requires c κs = let g = loads-ready _ (slice-bytes _ (λ j. omega (arith, c .before .before .before .before .before .before .before .before .before .shared-slice-known .given j))) (c .before .before .before .before .before .before .before .before .before .before .before .pre .1) _ _ _ (c .before .before .loop-test .taken) (c .before .before .before .loop .inv .1) in (g .1, g .2, g .3, g .4)
+fill-controller-requires c κs = let g = loads-ready _ (wide (c .before .before .before .before .before .before .before .before .before)) (c .before .before .before .before .before .before .before .before .before .before .before .pre .1) _ _ _ (c .before .before .loop-test .taken) (c .before .before .before .loop .inv .1) in (g .1, g .2, g .3, g .4)
 
--- src/lib.rt:98:16
 sub-left : tie.Need-sub-left Inv-loop μ-loop
 sub-left c = search needs
 
--- src/lib.rt:96:5
 loop-less : tie.Need-loop-less Inv-loop μ-loop
 loop-less c = omega arith
 
--- src/lib.rt:96:5
 loop-again : tie.Need-loop-again Inv-loop μ-loop
-loop-again c = (search needs, loads-turn _ (slice-bytes _ (λ j. omega (arith, c .before .before .before .before .before .before .before .before .before .before .before .before .shared-slice-known .given j))) (c .before .before .before .before .before .before .before .before .before .before .before .before .before .before .pre .1) _ _ _ (c .before .before .before .before .before .loop-test .taken) (c .before .before .before .before .before .before .loop .inv .1) _ _ (c .before .before .fill-controller .ensures))
+loop-again c = (search needs, loads-turn _ (wide (c .before .before .before .before .before .before .before .before .before .before .before .before)) (c .before .before .before .before .before .before .before .before .before .before .before .before .before .before .pre .1) _ _ _ (c .before .before .before .before .before .loop-test .taken) (c .before .before .before .before .before .before .loop .inv .1) _ _ (c .before .before .fill-controller .ensures))
 
--- src/lib.rt:89:1
 same-length : tie.Need-same-length Inv-loop μ-loop
 same-length c = search needs
 
--- src/lib.rt:89:1
 returns : tie.Need-returns Inv-loop μ-loop
 returns c = loads-last _ _ _ _ (search needs) (c .before .loop .inv .1)
 

@@ -1,74 +1,51 @@
 -- `restore::settings_in` meets its contract: each part is read at its place.
-use mathlib.Core.Path.{_≡_, refl, sym, ap, _∙_, subst}
-use mathlib.Core.List.{List, [], _∷_, _++_}
-use mathlib.Core.Logic.{⊎-elim}
-use Prim.Native.Nat.{ℕ, zero, suc, _+_, _-_, _*_, _≤_, _<_}
-use native.Mathlib.Omega.{arith}
-use lib.ListN.{length, take, drop, getD, set, length-set}
+use mathlib.Core.Path.{_∙_}
+use Prim.Native.Nat.{_-_}
 use Rattle.model.specs.State.{noTimer}
 use Rattle.restore.specs.Controllers.{settingsFrom, settings-from}
 use borrow.Author.Needs.{needs}
 use Rattle.restore.proofs.settings_in.Statement.{statement}
 use Rattle.restore.proofs.settings_in.Tie as tie
-use Rattle.restore.proofs.settings_in.Reads as reads
-use Rattle.restore.proofs.settings_in.Lts as lts
-use Rattle.octets.proofs.be16_at.Reads as be16-at-reads
-use Rattle.octets.proofs.be32_at.Reads as be32-at-reads
-use Rattle.octets.proofs.six.Reads as six-reads
 
--- src/lib.rt:43:9
 six-requires : tie.Need-six-requires
 six-requires c κs = search needs
 
--- src/lib.rt:44:47
 add-be16-at : tie.Need-add-be16-at
 add-be16-at c = search needs
 
--- src/lib.rt:44:24
 be16-at-requires : tie.Need-be16-at-requires
 be16-at-requires c κs = search needs
 
--- src/lib.rt:44:24
 cast-manufacturer : tie.Need-cast-manufacturer
 cast-manufacturer c = search needs
 
--- src/lib.rt:45:44
 add-be32-at : tie.Need-add-be32-at
 add-be32-at c = search needs
 
--- src/lib.rt:45:21
 be32-at-requires : tie.Need-be32-at-requires
 be32-at-requires c κs = search needs
 
--- src/lib.rt:45:21
 cast-supported : tie.Need-cast-supported
 cast-supported c = search needs
 
--- src/lib.rt:46:40
 add-be32-at-2 : tie.Need-add-be32-at-2
 add-be32-at-2 c = search needs
 
--- src/lib.rt:46:9
 be32-at-requires-2 : tie.Need-be32-at-requires-2
 be32-at-requires-2 c κs = search needs
 
--- src/lib.rt:47:44
 add-six : tie.Need-add-six
 add-six c = search needs
 
--- src/lib.rt:47:9
 six-requires-2 : tie.Need-six-requires-2
 six-requires-2 c κs = search needs
 
--- src/lib.rt:50:24
 add-t13 : tie.Need-add-t13
 add-t13 c = search needs
 
--- src/lib.rt:50:18
 shared-slice-read-t15 : tie.Need-shared-slice-read-t15
 shared-slice-read-t15 c = search needs
 
--- src/lib.rt:39:1
 returns : tie.Need-returns
 unfolding settingsFrom noTimer
 returns c = let a = c .before .before .before .before .before .before .before .args in (cc) ∙ settings-from (a .image .now) (a .at)
