@@ -120,7 +120,13 @@ fn settings_command(state: &mut [u8], index: u64, code: u64, ps: &[u8], reply: &
 }
 
 // Read Controller Information or Set Local Name to a present controller.
-fn information_command(state: &mut [u8], index: u64, code: u64, ps: &[u8], reply: &mut [u8]) -> Answer
+fn information_command(
+    state: &mut [u8],
+    index: u64,
+    code: u64,
+    ps: &[u8],
+    reply: &mut [u8],
+) -> Answer
     requires { ⌜ Ready (now state) index × (1024 ≤ length (now reply)) × (member code informationCodes ≡ true) ⌝ }
     ensures { λ r. ⌜ Gives (dispatched (now (state .entry)) index code (now (ps .entry))) r (now (reply .entry)) (now (reply .exit)) (now (state .exit)) ⌝ }
 {
@@ -171,7 +177,13 @@ fn devices_command(state: &mut [u8], index: u64, code: u64, ps: &[u8], reply: &m
 }
 
 // A command to a present controller.
-fn controller_command(state: &mut [u8], index: u64, code: u64, ps: &[u8], reply: &mut [u8]) -> Answer
+fn controller_command(
+    state: &mut [u8],
+    index: u64,
+    code: u64,
+    ps: &[u8],
+    reply: &mut [u8],
+) -> Answer
     requires { ⌜ Ready (now state) index × (1024 ≤ length (now reply)) × (member code controllerCodes ≡ true) ⌝ }
     ensures { λ r. ⌜ Gives (dispatched (now (state .entry)) index code (now (ps .entry))) r (now (reply .entry)) (now (reply .exit)) (now (state .exit)) ⌝ }
 {

@@ -72,12 +72,28 @@ fn clock(state: &mut [u8], reading: u32, reply: &mut [u8]) -> Answer
 }
 
 // A controller is plugged in.
-fn plug(state: &mut [u8], index: u64, address: &[u8], version: u8, manufacturer: u16, supported: u32, reply: &mut [u8]) -> Answer
+fn plug(
+    state: &mut [u8],
+    index: u64,
+    address: &[u8],
+    version: u8,
+    manufacturer: u16,
+    supported: u32,
+    reply: &mut [u8],
+) -> Answer
     ensures { λ r. ⌜ Gives (meaning (now (state .entry)) (M.plug (length (now (reply .entry))) index (record { publicAddress = now (address .entry); version = version; manufacturer = manufacturer; supported = supported }))) r (now (reply .entry)) (now (reply .exit)) (now (state .exit)) ⌝ }
 {
     if checks::well_formed(state) {
         if 1024 <= reply.len() {
-            return calls::plug(state, index, address, version, manufacturer, supported, reply);
+            return calls::plug(
+                state,
+                index,
+                address,
+                version,
+                manufacturer,
+                supported,
+                reply,
+            );
         }
         return Answer::SmallBuffer;
     }
@@ -139,10 +155,26 @@ pub extern "C" fn hub_clock(state: &mut [u8], reading: u32, reply: &mut [u8]) ->
 
 // C's call of a plug.
 #[no_mangle]
-pub extern "C" fn hub_plug(state: &mut [u8], index: u64, address: &[u8], version: u8, manufacturer: u16, supported: u32, reply: &mut [u8]) -> u64
+pub extern "C" fn hub_plug(
+    state: &mut [u8],
+    index: u64,
+    address: &[u8],
+    version: u8,
+    manufacturer: u16,
+    supported: u32,
+    reply: &mut [u8],
+) -> u64
     ensures { λ r. ⌜ Returns (hubPlug (now (state .entry)) index (record { publicAddress = now (address .entry); version = version; manufacturer = manufacturer; supported = supported }) (length (now (reply .entry)))) r (now (reply .entry)) (now (reply .exit)) (now (state .exit)) ⌝ }
 {
-    let a = plug(state, index, address, version, manufacturer, supported, reply);
+    let a = plug(
+        state,
+        index,
+        address,
+        version,
+        manufacturer,
+        supported,
+        reply,
+    );
     pack(a)
 }
 
@@ -162,4 +194,13 @@ pub extern "C" fn hub_save(state: &[u8], reply: &mut [u8]) -> u64
 {
     let a = save(state, reply);
     pack(a)
+}
+
+// C's call of a load: nothing is written but the state.
+#[no_mangle]
+pub extern "C" fn hub_load(state: &mut [u8], image: &[u8]) -> u64
+    ensures { λ r. ⌜ (r ≡ hubLoad (now (state .entry)) (now (image .entry)) .answer) × (now (state .exit) ≡ hubLoad (now (state .entry)) (now (image .entry)) .state) ⌝ }
+{
+    let a = restore::load(state, image);
+    replies::number(a)
 }
