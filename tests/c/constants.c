@@ -1,0 +1,47 @@
+/*
+ * The header's constants, held to the library: each length is the shortest or the only one that is taken.
+ */
+#include <stdio.h>
+#include <string.h>
+
+#include "hub.h"
+
+static uint8_t state[HUB_STATE_LEN + 1];
+static uint8_t reply[HUB_IMAGE_MAX];
+static const uint8_t empty[] = { 0, 0, 0, 6, 1, 0 };
+static const uint8_t version[] = { 1, 0, 0xFF, 0xFF, 0, 0 };
+static int failures;
+
+static void expect(const char *what, unsigned got, unsigned wanted)
+{
+    if (got != wanted) {
+        printf("%s: %u, and not %u\n", what, got, wanted);
+        failures++;
+    }
+}
+
+int main(void)
+{
+    uint8_t changed[sizeof empty];
+    uint64_t result;
+    expect("state one octet short", hub_answer(hub_load(state, HUB_STATE_LEN - 1, empty, sizeof empty)), HUB_BAD_STATE);
+    expect("state one octet long", hub_answer(hub_load(state, HUB_STATE_LEN + 1, empty, sizeof empty)), HUB_BAD_STATE);
+    memcpy(changed, empty, sizeof empty);
+    changed[4] = 2;
+    expect("image of another version", hub_answer(hub_load(state, HUB_STATE_LEN, changed, sizeof changed)), HUB_BAD_IMAGE);
+    expect("empty image", hub_answer(hub_load(state, HUB_STATE_LEN, empty, sizeof empty)), HUB_DONE);
+    expect("reply one octet short", hub_answer(hub_command(state, HUB_STATE_LEN, version, 6, reply, HUB_REPLY_MIN - 1)), HUB_SMALL_BUFFER);
+    result = hub_command(state, HUB_STATE_LEN, version, 6, reply, HUB_REPLY_MIN);
+    expect("read version", hub_answer(result), HUB_DONE);
+    expect("its count", (unsigned)hub_count(result), 12);
+    expect("its second number", hub_extra(result), 0);
+    expect("five octets", hub_answer(hub_command(state, HUB_STATE_LEN, version, 5, reply, HUB_REPLY_MIN)), HUB_BAD_PACKET);
+    expect("image one octet short", hub_answer(hub_save(state, HUB_STATE_LEN, reply, HUB_IMAGE_MAX - 1)), HUB_SMALL_BUFFER);
+    expect("save", hub_answer(hub_save(state, HUB_STATE_LEN, reply, HUB_IMAGE_MAX)), HUB_DONE);
+    expect("unplug of an absent index", hub_answer(hub_unplug(state, HUB_STATE_LEN, 0, reply, HUB_REPLY_MIN)), HUB_BAD_ARGUMENT);
+    expect("an index of 64 bits", hub_answer(hub_report(state, HUB_STATE_LEN, ~(uint64_t)0, 0, reply, HUB_REPLY_MIN)), HUB_BAD_ARGUMENT);
+    state[5] = 1;
+    expect("a state with an octet that means nothing", hub_answer(hub_clock(state, HUB_STATE_LEN, 0, reply, HUB_REPLY_MIN)), HUB_BAD_STATE);
+    printf("constants: %s\n", failures ? "wrong" : "right");
+    return failures != 0;
+}
