@@ -1,8 +1,8 @@
 -- Laws that the proofs of this crate cite, over plain lists and numbers.
 use Prim.Native.Nat.{ℕ, zero, suc, _+_, _-_, _*_, _/_, _%_, _^_, _<_, _≤_}
 use native.Mathlib.Omega.{arith}
-use native.Mathlib.Nat.{add-zero, mul-suc, one-mul}
-use lib.Pow.{shl-exact}
+use native.Mathlib.Nat.{add-zero, mul-suc, one-mul, mul-zero, sub-zero, div-one, mul-add}
+use lib.Pow.{shl-exact, shr-shr}
 use mathlib.Core.Path.{_≡_, refl, sym, ap, _∙_}
 use mathlib.Core.Bool.{Bool, true, false, _&&_, _||_, not}
 use mathlib.Core.List.{List, [], _∷_, _++_, map}
@@ -19,6 +19,9 @@ use Rattle.model.specs.Tables.{TableRule, any, blockedRule, deviceRule, distinc
 use Rattle.model.specs.Proof.Rows.{ruleAt}
 use Rattle.octets.specs.Parts.{part, length-part, getD-part}
 use Rattle.model.specs.Proof.Tables.{same-eq}
+use Rattle.model.specs.Proof.Tests.{and-true}
+use Rattle.records.specs.Marks.{markOf, marked, marked-more, marked-none, tellingOf}
+use lib.Bits.{bitOr}
 use Rattle.records.specs.Slots.{recordsAt, used-slot, free-slot, no-slots, no-more}
 
 pub ruleset tests = (eq-eqb, ne-eqb, le-leb, lt-leb, le-ltb, lt-ltb)
@@ -295,29 +298,153 @@ module _ (u : TableRule) (s mine : Octets) (size : ℕ) (e : size ≡ u .size) (
   unfolding any
   any-end l = sym (rw (no-more s size at n w l))
 
-module _ (u : TableRule) (s : Octets) (size : ℕ) (e : size ≡ u .size) (at n w : ℕ) where
-  pub distinct-used : 0 < n → w % 2 ≡ 1 → any (same (u .key (part s at (u .size)))) (map (u .key) (recordsAt s (u .size) (at + size) (n - 1) (w / 2))) ≡ false
-      → distinct (map (u .key) (recordsAt s size (at + size) (n - 1) (w / 2))) ≡ distinct (map (u .key) (recordsAt s size at n w))
+-- 6. From the last slot down ----------------------------------------------------------------------------------------------------------------
+
+-- the mark of the record at a place
+pub mark-uuid : (k : ℕ) (s : Octets) (at : ℕ) → k ≡ 0 → getD s (at + 12) 0 % 64 ≡ markOf k (part s at (ruleAt k .size))
+unfolding markOf tellingOf octet uuidRule
+mark-uuid k s at e = rw (rule0 k e, e, getD-part s at 17 12 (omega arith))
+
+pub mark-address : (k : ℕ) (s : Octets) (at : ℕ) → k < 6 → (k ≡ 0 → ⊥) → getD s at 0 % 64 ≡ markOf k (part s at (ruleAt k .size))
+unfolding markOf tellingOf octet
+mark-address zero s at l n = absurd (n refl)
+mark-address (suc k) s at l n = rw (getD-part s at (ruleAt (suc k) .size) 0 (omega (arith, size-least (suc k) l)), add-zero)
+
+-- what follows the first of a list without a repeat has none
+tail-apart : (key : Octets → Octets) (r : Octets) (rs : List Octets) → distinct (map key (r ∷ rs)) ≡ true → distinct (map key rs) ≡ true
+unfolding distinct
+tail-apart key r rs e = and-true (not (any (same (key r)) (map key rs))) _ e .1
+
+-- a word shifted by one more
+half : (w j : ℕ) → w / 2 ^ j / 2 ≡ w / 2 ^ (j + 1)
+half w j = shr-shr w j 1
+
+-- what the loop of `distinct` keeps: the slots from j on have no repeat, and the marks of their records are seen
+pub record Down (k : ℕ) (s : Octets) (place n w size at j seen : ℕ) : Type 0 where
+  pub sized : size ≡ ruleAt k .size
+  pub within : j ≤ n
+  pub placed : at ≡ place + size * j
+  pub apart : distinct (map (ruleAt k .key) (recordsAt s (ruleAt k .size) at (n - j) (w / 2 ^ j))) ≡ true
+  pub told : marked k seen (recordsAt s (ruleAt k .size) at (n - j) (w / 2 ^ j)) ≡ true
+
+-- at the start there are none
+pub down-first : (k : ℕ) (s : Octets) (place n w size : ℕ) → size ≡ ruleAt k .size → Down k s place n w size (place + size * n) n 0
+unfolding distinct
+down-first k s place n w size e =
+    let z : recordsAt s (ruleAt k .size) (place + size * n) (n - n) (w / 2 ^ n) ≡ [] = no-more s (ruleAt k .size) (place + size * n) (n - n) (w / 2 ^ n) (omega arith) in
+    record { sized = e; within = omega arith; placed = refl; apart = rw z; told = rw z (marked-none k 0) }
+
+-- where a list has no repeat, neither has what is left of it behind i slots
+suffix : (u : TableRule) (s : Octets) (place n w i : ℕ) → i ≤ n → distinct (map (u .key) (recordsAt s (u .size) place n w)) ≡ true
+    → distinct (map (u .key) (recordsAt s (u .size) (place + u .size * i) (n - i) (w / 2 ^ i))) ≡ true
+suffix u s place n w zero l d =
+    let q : w / 2 ^ 0 ≡ w = div-one w in
+    rw (mul-zero, add-zero, sub-zero, q) d
+suffix u s place n w (suc i) l d = go (eqb (w / 2 ^ i % 2) 1) refl (suffix u s place n w i (omega arith) d)
+  where
+    size : ℕ
+    size = u .size
+
+    rest : List Octets
+    rest = recordsAt s size (place + size * suc i) (n - suc i) (w / 2 ^ suc i)
+
+    next : recordsAt s size (place + size * i + size) (n - i - 1) (w / 2 ^ i / 2) ≡ rest
+    next =
+        let a : place + size * i + size ≡ place + size * suc i = omega (arith, mul-suc size i) in
+        let b : n - i - 1 ≡ n - suc i = omega arith in
+        let c : i + 1 ≡ suc i = omega arith in
+        rw (a, b, half w i, c)
+
+    go : (x : Bool) → eqb (w / 2 ^ i % 2) 1 ≡ x → distinct (map (u .key) (recordsAt s size (place + size * i) (n - i) (w / 2 ^ i))) ≡ true → distinct (map (u .key) rest) ≡ true
+    go true e f = tail-apart (u .key) (part s (place + size * i) size) rest (rw (used-slot s size (place + size * i) (n - i) (w / 2 ^ i) (omega arith) (eqb-true _ 1 e), next) at f)
+    go false e f = rw (free-slot s size (place + size * i) (n - i) (w / 2 ^ i) (omega arith) (eqb-false _ 1 e), next) at f
+
+module _ (k : ℕ) (s : Octets) (place n w size at j seen : ℕ) (d : Down k s place n w size at j seen) (l : 0 < j) where
+  -- the slot before
+  pub down-room : size ≤ at
+  down-room =
+      let e : j ≡ suc (j - 1) = omega arith in
+      let f : at ≡ place + size * suc (j - 1) = rw e at (d .placed) in
+      omega (arith, mul-suc size (j - 1))
+
+  down-place : at - size ≡ place + size * (j - 1)
+  down-place =
+      let e : j ≡ suc (j - 1) = omega arith in
+      let f : at ≡ place + size * suc (j - 1) = rw e at (d .placed) in
+      omega (arith, mul-suc size (j - 1))
+
+  -- it lies within, and so do those behind it
+  pub down-fits : (end : ℕ) → place + ruleAt k .size * n ≤ end → at - size + ruleAt k .size + ruleAt k .size * (n - j) ≤ end
+  down-fits end h =
+      let e : n ≡ n - j + j = omega (arith, d .within) in
+      let f : place + ruleAt k .size * (n - j + j) ≤ end = rw e at h in
+      let g : at ≡ place + ruleAt k .size * j = rw (d .sized) at (d .placed) in
+      omega (arith, mul-add (ruleAt k .size) (n - j) j, d .sized, down-room)
+
+  -- the slots behind it are those that are known
+  pub down-behind : recordsAt s (ruleAt k .size) (at - size + ruleAt k .size) (n - j) (w / 2 ^ (j - 1) / 2) ≡ recordsAt s (ruleAt k .size) at (n - j) (w / 2 ^ j)
+  down-behind =
+      let a : at - size + ruleAt k .size ≡ at = omega (arith, d .sized, down-room) in
+      let b : j - 1 + 1 ≡ j = omega arith in
+      rw (a, half w (j - 1), b)
+
+  pub down-told : marked k seen (recordsAt s (ruleAt k .size) (at - size + ruleAt k .size) (n - j) (w / 2 ^ (j - 1) / 2)) ≡ true
+  down-told = rw down-behind (d .told)
+
+  -- the slot and those behind it, in use or free
+  with-used : w / 2 ^ (j - 1) % 2 ≡ 1 → recordsAt s (ruleAt k .size) (at - size) (n - (j - 1)) (w / 2 ^ (j - 1)) ≡ part s (at - size) (ruleAt k .size) ∷ recordsAt s (ruleAt k .size) at (n - j) (w / 2 ^ j)
+  with-used b =
+      let e : n - (j - 1) - 1 ≡ n - j = omega arith in
+      used-slot s (ruleAt k .size) (at - size) (n - (j - 1)) (w / 2 ^ (j - 1)) (omega (arith, d .within)) b ∙ rw (e, down-behind)
+
+  with-free : (w / 2 ^ (j - 1) % 2 ≡ 1 → ⊥) → recordsAt s (ruleAt k .size) (at - size) (n - (j - 1)) (w / 2 ^ (j - 1)) ≡ recordsAt s (ruleAt k .size) at (n - j) (w / 2 ^ j)
+  with-free b =
+      let e : n - (j - 1) - 1 ≡ n - j = omega arith in
+      free-slot s (ruleAt k .size) (at - size) (n - (j - 1)) (w / 2 ^ (j - 1)) (omega (arith, d .within)) b ∙ rw (e, down-behind)
+
+  pub down-free : (w / 2 ^ (j - 1) % 2 ≡ 1 → ⊥) → Down k s place n w size (at - size) (j - 1) seen
+  down-free b = record { sized = d .sized; within = omega (arith, d .within); placed = down-place; apart = rw (with-free b) (d .apart); told = rw (with-free b) (d .told) }
+
+  -- whether the record is a repeat of one behind it
+  abbrev pub Again : Bool
+  Again = any (same (ruleAt k .key (part s (at - size) (ruleAt k .size)))) (map (ruleAt k .key) (recordsAt s (ruleAt k .size) (at - size + ruleAt k .size) (n - j) (w / 2 ^ (j - 1) / 2)))
+
+  apart-is : (b : Bool) → Again ≡ b → distinct (map (ruleAt k .key) (part s (at - size) (ruleAt k .size) ∷ recordsAt s (ruleAt k .size) at (n - j) (w / 2 ^ j))) ≡ not b && distinct (map (ruleAt k .key) (recordsAt s (ruleAt k .size) at (n - j) (w / 2 ^ j)))
   unfolding distinct
-  distinct-used l b h = sym (rw (used-slot s size at n w l b, e, (rw e at h)))
+  apart-is b e = let f : any (same (ruleAt k .key (part s (at - size) (ruleAt k .size)))) (map (ruleAt k .key) (recordsAt s (ruleAt k .size) at (n - j) (w / 2 ^ j))) ≡ b = rw down-behind at e in rw f
 
-  pub distinct-repeats : 0 < n → w % 2 ≡ 1 → any (same (u .key (part s at (u .size)))) (map (u .key) (recordsAt s (u .size) (at + size) (n - 1) (w / 2))) ≡ true
-      → false ≡ distinct (map (u .key) (recordsAt s size at n w))
-  unfolding distinct
-  distinct-repeats l b h = sym (rw (used-slot s size at n w l b, e, (rw e at h)))
+  pub down-used : (m : ℕ) → w / 2 ^ (j - 1) % 2 ≡ 1 → Again ≡ false → m ≡ markOf k (part s (at - size) (ruleAt k .size)) → m < 64
+      → Down k s place n w size (at - size) (j - 1) (bitOr seen (1 * 2 ^ m % 18446744073709551616))
+  down-used m b a q h = record {
+    sized = d .sized;
+    within = omega (arith, d .within);
+    placed = down-place;
+    apart = rw (with-used b) (apart-is false a ∙ d .apart);
+    told = rw (with-used b) (marked-more k seen m _ _ q h (d .told));
+  }
 
-  pub distinct-free : 0 < n → (w % 2 ≡ 1 → ⊥) → distinct (map (u .key) (recordsAt s size (at + size) (n - 1) (w / 2))) ≡ distinct (map (u .key) (recordsAt s size at n w))
-  distinct-free l b = sym (rw (free-slot s size at n w l b))
+  pub down-again : w / 2 ^ (j - 1) % 2 ≡ 1 → Again ≡ true → false ≡ distinct (map (ruleAt k .key) (recordsAt s (ruleAt k .size) place n w))
+  down-again b a = go (distinct (map (ruleAt k .key) (recordsAt s (ruleAt k .size) place n w))) refl
+    where
+      level : distinct (map (ruleAt k .key) (recordsAt s (ruleAt k .size) (at - size) (n - (j - 1)) (w / 2 ^ (j - 1)))) ≡ false
+      level = rw (with-used b) (apart-is true a)
 
-  pub distinct-none : w ≡ 0 → true ≡ distinct (map (u .key) (recordsAt s size at n w))
-  unfolding distinct
-  distinct-none z = sym (rw (z, no-slots size n (drop at s)))
+      go : (x : Bool) → distinct (map (ruleAt k .key) (recordsAt s (ruleAt k .size) place n w)) ≡ x → false ≡ x
+      go false e = refl
+      go true e =
+          let f = suffix (ruleAt k) s place n w (j - 1) (omega (arith, d .within)) e in
+          let g : place + ruleAt k .size * (j - 1) ≡ at - size = rw (← d .sized) (sym down-place) in
+          sym level ∙ (rw g at f)
 
-  pub distinct-end : n ≤ 0 → true ≡ distinct (map (u .key) (recordsAt s size at n w))
-  unfolding distinct
-  distinct-end l = sym (rw (no-more s size at n w l))
+-- at the end nothing is left before
+pub down-last : (k : ℕ) (s : Octets) (place n w size at j seen : ℕ) → Down k s place n w size at j seen → j ≤ 0 → true ≡ distinct (map (ruleAt k .key) (recordsAt s (ruleAt k .size) place n w))
+down-last k s place n w size at j seen d l =
+    let z : j ≡ 0 = omega arith in
+    let a : at ≡ place = (rw (z, mul-zero, add-zero) at (d .placed)) in
+    let q : w / 2 ^ 0 ≡ w = div-one w in
+    sym (rw (a, z, sub-zero, q) at (d .apart))
 
--- 6. Support --------------------------------------------------------------------------------------------------------------------------------
+-- 7. Support --------------------------------------------------------------------------------------------------------------------------------
 
 module _ (k n : ℕ) (f : Hardware) (e : f .supported ≡ n) where
   pub needs-bredr : k ≡ 1 → eqb (n / 128 % 2) 1 ≡ passes (ruleAt k .support f)

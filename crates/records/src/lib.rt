@@ -3,6 +3,7 @@
 // word is set: a table of the lent state has its occupancy word and 32 slots, a list of n records the word of n ones.
 ghost use mathlib.Core.Path.{_≡_};
 ghost use Prim.Native.Nat.{_+_, _-_, _*_, _^_, _≤_, _<_};
+ghost use mathlib.Core.Bool.{true};
 ghost use mathlib.Core.List.{map};
 ghost use lib.ListN.{length};
 ghost use Rattle.model.specs.declared.Hardware.{Hardware};
@@ -12,6 +13,7 @@ ghost use Rattle.model.specs.Tables as T;
 ghost use Rattle.model.specs.Proof.Rows.{ruleAt};
 ghost use Rattle.octets.specs.Parts.{part};
 ghost use Rattle.records.specs.Slots.{recordsAt};
+ghost use Rattle.records.specs.Marks.{markOf, marked};
 
 // The record size of table k.
 pub fn size_of(k: usize) -> usize
@@ -227,27 +229,51 @@ fn repeated(k: usize, s: &[u8], at: usize, place: usize, n: usize, w: u64) -> bo
     false
 }
 
-// Whether no two records among the n slots of table k from a place on have one identity.
+// Which of 64 marks a record of table k has, by the octet that most often tells two apart.
+fn mark_of(k: usize, s: &[u8], at: usize) -> u64
+    requires { ⌜ (k < 6) × (at + ruleAt k .size ≤ length (now s)) ⌝ }
+    ensures { λ r. ⌜ (r ≡ markOf k (part (now (s .entry)) at (ruleAt k .size))) × (r < 64) ⌝ }
+{
+    if k == 0 {
+        return octets::wide(s[at + 12]) % 64;
+    }
+    octets::wide(s[at]) % 64
+}
+
+// Whether the record at `at` has the identity of one among the n slots of table k behind it. The marks of those are seen, so where the
+// record's own is not, none of them needs to be looked at.
+fn again(k: usize, s: &[u8], at: usize, n: usize, w: u64, seen: u64) -> bool
+    requires { ⌜ (k < 6) × (at + ruleAt k .size + ruleAt k .size * n ≤ length (now s)) × (marked k seen (recordsAt (now s) (ruleAt k .size) (at + ruleAt k .size) n w) ≡ true) ⌝ }
+    ensures { λ r. ⌜ r ≡ T.any (same (ruleAt k .key (part (now (s .entry)) at (ruleAt k .size)))) (map (ruleAt k .key) (recordsAt (now (s .entry)) (ruleAt k .size) (at + ruleAt k .size) n w)) ⌝ }
+{
+    let m = mark_of(k, s, at);
+    if (seen >> m) % 2 == 1 {
+        return repeated(k, s, at, at + size_of(k), n, w);
+    }
+    false
+}
+
+// Whether no two records among the n slots of table k from a place on have one identity: from the last slot down, each against those behind it.
 pub fn distinct(k: usize, s: &[u8], place: usize, n: usize, w: u64) -> bool
     requires { ⌜ (k < 6) × (n ≤ 32) × (place + ruleAt k .size * n ≤ length (now s)) ⌝ }
     ensures { λ r. ⌜ r ≡ T.distinct (map (ruleAt k .key) (recordsAt (now (s .entry)) (ruleAt k .size) place n w)) ⌝ }
 {
     let size = size_of(k);
-    let mut at = place;
-    let mut left = n;
-    let mut word = w;
-    while 0 < left {
-        if word == 0 {
-            return true;
-        }
-        if word % 2 == 1 {
-            if repeated(k, s, at, at + size, left - 1, word / 2) {
+    let mut at = place + size * n;
+    let mut j = n;
+    let mut seen: u64 = 0;
+    while 0 < j {
+        let here = at - size;
+        let v = w >> (j - 1);
+        if v % 2 == 1 {
+            if again(k, s, here, n - j, v / 2, seen) {
                 return false;
             }
+            let m = mark_of(k, s, here);
+            seen = seen | (1 << m);
         }
-        at = at + size;
-        left = left - 1;
-        word = word / 2;
+        at = here;
+        j = j - 1;
     }
     true
 }
