@@ -17,4 +17,4 @@ valgrind --quiet --error-exitcode=9 "$out/host" "$out/shift.image" > "$out/first
 valgrind --quiet --error-exitcode=9 "$out/host" "$out/shift.image" > "$out/second.txt"
 cd tests
 export HUB_LIB_DIR="$PWD/../target/staticlib" CARGO_TARGET_DIR="$PWD/../target/tests"
-cargo run --release --offline --quiet -p compare -- "${HUB_CALLS:-1000000}" "${HUB_SEED:-$RANDOM}"
+cargo run --release --offline --quiet -p compare --bin compare -- "${HUB_CALLS:-1000000}" "${HUB_SEED:-$RANDOM}"

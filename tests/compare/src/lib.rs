@@ -7,6 +7,7 @@
 pub mod lent;
 pub mod mirror;
 pub mod run;
+pub mod script;
 pub mod shrink;
 pub mod target;
 #[cfg(test)]

@@ -1,0 +1,166 @@
+//! Examples in words: calls, and what each gives. `examples/README.md` has the grammar.
+
+use reference::codes::{IMAGE_ROOM, REPLY_ROOM};
+use reference::{Call, Reply};
+
+/// A call of an example.
+pub enum Step {
+    /// Any call but load.
+    Call(Call),
+    /// A load of an image.
+    Load(Vec<u8>),
+}
+
+/// A call with what it gives.
+pub struct Line {
+    /// The line of the file that the call stands in.
+    pub number: usize,
+    /// The call.
+    pub step: Step,
+    /// Its answer and every octet that it writes.
+    pub gives: Reply,
+}
+
+/// An example: a list of calls from the fresh state.
+pub struct Example {
+    /// What it shows.
+    pub title: String,
+    /// Its calls.
+    pub lines: Vec<Line>,
+}
+
+/// The examples of a file.
+pub fn examples(text: &str) -> Vec<Example> {
+    let mut examples = Vec::new();
+    let mut room = None;
+    let mut asked = None;
+    for (number, line) in joined(text) {
+        if let Some(title) = line.strip_prefix("== ") {
+            assert!(asked.is_none(), "line {number}: the call before gives nothing");
+            examples.push(Example { title: title.to_string(), lines: Vec::new() });
+            continue;
+        }
+        let words: Vec<&str> = line.split_whitespace().collect();
+        match words[0] {
+            "room" => room = Some(value(words[1]) as usize),
+            "gives" => {
+                let (number, step) =
+                    asked.take().unwrap_or_else(|| panic!("line {number}: no call gives this"));
+                let gives = Reply { answer: value(words[1]) as u8, octets: octets(&words[2..]) };
+                let example = examples.last_mut().expect("a title comes first");
+                example.lines.push(Line { number, step, gives });
+            }
+            _ => {
+                assert!(asked.is_none(), "line {number}: the call before gives nothing");
+                asked = Some((number, step(&words, room.take())));
+            }
+        }
+    }
+    assert!(asked.is_none(), "the last call gives nothing");
+    examples
+}
+
+/// The lines with their numbers, those that go on joined to the line before, comments left out.
+fn joined(text: &str) -> Vec<(usize, String)> {
+    let mut lines: Vec<(usize, String)> = Vec::new();
+    for (place, line) in text.lines().enumerate() {
+        if line.trim().is_empty() || line.starts_with('#') {
+            continue;
+        }
+        match lines.last_mut() {
+            Some((_, last)) if line.starts_with(' ') => last.push_str(line),
+            _ => lines.push((place + 1, line.to_string())),
+        }
+    }
+    lines
+}
+
+/// The call that a line's words name, with the room of its reply buffer.
+fn step(words: &[&str], room: Option<usize>) -> Step {
+    let number = |place: usize| value(words[place]);
+    let replies = room.unwrap_or(REPLY_ROOM);
+    Step::Call(match words[0] {
+        "load" => return Step::Load(octets(&words[1..])),
+        "command" => Call::Command { packet: octets(&words[1..]), room: replies },
+        "report" => Call::Report { index: number(1), status: number(2), room: replies },
+        "clock" => Call::Clock { reading: number(1) as u32, room: replies },
+        "plug" => {
+            let rest = words.len() - 3;
+            Call::Plug {
+                index: number(1),
+                address: octets(&words[2..rest]),
+                version: number(rest) as u8,
+                manufacturer: number(rest + 1) as u16,
+                supported: number(rest + 2) as u32,
+                room: replies,
+            }
+        }
+        "unplug" => Call::Unplug { index: number(1), room: replies },
+        "save" => Call::Save { room: room.unwrap_or(IMAGE_ROOM) },
+        other => panic!("no such call: {other}"),
+    })
+}
+
+/// A number: decimal, or hexadecimal with 0x.
+fn value(word: &str) -> u64 {
+    let read = match word.strip_prefix("0x") {
+        Some(digits) => u64::from_str_radix(digits, 16),
+        None => word.parse(),
+    };
+    read.unwrap_or_else(|_| panic!("no number: {word}"))
+}
+
+/// An octet of two hexadecimal digits.
+fn octet(word: &str) -> u8 {
+    assert_eq!(word.len(), 2, "no octet: {word}");
+    u8::from_str_radix(word, 16).unwrap_or_else(|_| panic!("no octet: {word}"))
+}
+
+/// The octets that words stand for.
+fn octets(words: &[&str]) -> Vec<u8> {
+    let mut out = Vec::new();
+    group(words, 0, &mut out);
+    out
+}
+
+/// Writes out the octets of words; `##` stands for the counter.
+fn group(words: &[&str], counter: u8, out: &mut Vec<u8>) {
+    let mut place = 0;
+    while place < words.len() {
+        match words[place] {
+            "(" => {
+                let end = closing(words, place);
+                repeat(&words[place + 1..end], words[end], counter, out);
+                place = end;
+            }
+            "##" => out.push(counter),
+            word => match word.split_once('*') {
+                Some((what, times)) => out.extend(vec![octet(what); value(times) as usize]),
+                None => out.push(octet(word)),
+            },
+        }
+        place += 1;
+    }
+}
+
+/// Where the bracket that is open at a place ends.
+fn closing(words: &[&str], open: usize) -> usize {
+    let mut depth = 0;
+    for (place, word) in words.iter().enumerate().skip(open) {
+        depth += i32::from(*word == "(");
+        depth -= i32::from(word.starts_with(')'));
+        if depth == 0 {
+            return place;
+        }
+    }
+    panic!("a bracket stays open")
+}
+
+/// Writes out what stands in brackets as often as the closing one says.
+fn repeat(words: &[&str], close: &str, counter: u8, out: &mut Vec<u8>) {
+    let times = close.strip_prefix(")*").unwrap_or_else(|| panic!("how often: {close}"));
+    match times.split_once("..") {
+        Some((first, last)) => (octet(first)..=octet(last)).for_each(|count| group(words, count, out)),
+        None => (0..value(times)).for_each(|_| group(words, counter, out)),
+    }
+}
