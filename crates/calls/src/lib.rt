@@ -92,7 +92,7 @@ fn tick(state: &mut [u8], index: u64, step: u32, reply: &mut [u8], place: usize)
         let host = before.host;
         let timer = host.timer;
         let over = rules::ends(timer, step);
-        let left = rules::countdown(timer, step);
+        let left = timer::counted_down(timer, step);
         let after = rules::with_timer(before, left);
         layout::put_settings(state, index, after);
         if over {

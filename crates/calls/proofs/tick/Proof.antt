@@ -16,7 +16,7 @@ use Rattle.layout.proofs.present.Reads as present-reads
 use Rattle.layout.proofs.put_settings.Reads as put-settings-reads
 use Rattle.layout.proofs.settings_at.Reads as settings-at-reads
 use Rattle.replies.proofs.new_settings.Reads as new-settings-reads
-use Rattle.rules.proofs.countdown.Reads as countdown-reads
+use Rattle.timer.proofs.counted_down.Reads as counted-down-reads
 use Rattle.rules.proofs.current_settings.Reads as current-settings-reads
 use Rattle.rules.proofs.ends.Reads as ends-reads
 use Rattle.rules.proofs.with_timer.Reads as with-timer-reads
@@ -34,8 +34,8 @@ ends-requires : tie.Need-ends-requires
 ends-requires c κs = search needs
 
 -- src/lib.rt:95:13
-countdown-requires : tie.Need-countdown-requires
-countdown-requires c κs = search needs
+counted-down-requires : tie.Need-counted-down-requires
+counted-down-requires c κs = search needs
 
 -- src/lib.rt:96:13
 with-timer-requires : tie.Need-with-timer-requires
@@ -67,7 +67,7 @@ same-length-2 c = search needs
 
 -- src/lib.rt:101:13
 returns : tie.Need-returns
-returns c = tick-ends _ _ _ _ _ _ _ (ready _ _ (c .before .before .before .before .before .before .before .before .before .before .before .before .before .before .before .before .before .before .before .before .before .before .pre .0) (sym (c .before .before .before .before .before .before .before .before .before .before .before .before .before .before .before .before .before .before .present .ensures) ∙ c .before .before .before .before .before .before .before .before .before .before .before .before .before .before .before .before .before .if1 .taken)) _ _ _ _ _ (c .before .before .before .before .before .before .before .before .before .before .before .before .before .before .before .settings-at .ensures) refl (c .before .before .before .before .before .before .before .before .before .before .before .before .ends .ensures) (c .before .before .before .before .before .before .before .before .before .before .before .countdown .ensures) (c .before .before .before .before .before .before .before .before .before .before .with-timer .ensures) (c .before .before .before .before .before .before .before .before .put-settings .ensures) _ (c .before .before .before .before .before .if2 .taken) (c .before .before .before .before .current-settings .ensures) (c .before .before .new-settings .ensures)
+returns c = tick-ends _ _ _ _ _ _ _ (ready _ _ (c .before .before .before .before .before .before .before .before .before .before .before .before .before .before .before .before .before .before .before .before .before .before .pre .0) (sym (c .before .before .before .before .before .before .before .before .before .before .before .before .before .before .before .before .before .before .present .ensures) ∙ c .before .before .before .before .before .before .before .before .before .before .before .before .before .before .before .before .before .if1 .taken)) _ _ _ _ _ (c .before .before .before .before .before .before .before .before .before .before .before .before .before .before .before .settings-at .ensures) refl (c .before .before .before .before .before .before .before .before .before .before .before .before .ends .ensures) (c .before .before .before .before .before .before .before .before .before .before .before .counted-down .ensures) (c .before .before .before .before .before .before .before .before .before .before .with-timer .ensures) (c .before .before .before .before .before .before .before .before .put-settings .ensures) _ (c .before .before .before .before .before .if2 .taken) (c .before .before .before .before .current-settings .ensures) (c .before .before .new-settings .ensures)
 
 -- src/lib.rt:103:9
 same-length-3 : tie.Need-same-length-3
@@ -75,7 +75,7 @@ same-length-3 c = search needs
 
 -- src/lib.rt:103:9
 returns-2 : tie.Need-returns-2
-returns-2 c = tick-on _ _ _ _ _ (c .before .before .before .before .before .before .before .before .before .before .before .before .before .before .before .before .before .args .reply .now) _ (ready _ _ (c .before .before .before .before .before .before .before .before .before .before .before .before .before .before .before .before .before .pre .0) (sym (c .before .before .before .before .before .before .before .before .before .before .before .before .before .present .ensures) ∙ c .before .before .before .before .before .before .before .before .before .before .before .before .if1 .taken)) _ _ _ _ _ (c .before .before .before .before .before .before .before .before .before .before .settings-at .ensures) refl (c .before .before .before .before .before .before .before .ends .ensures) (c .before .before .before .before .before .before .countdown .ensures) (c .before .before .before .before .before .with-timer .ensures) (c .before .before .before .put-settings .ensures) (c .if2 .left)
+returns-2 c = tick-on _ _ _ _ _ (c .before .before .before .before .before .before .before .before .before .before .before .before .before .before .before .before .before .args .reply .now) _ (ready _ _ (c .before .before .before .before .before .before .before .before .before .before .before .before .before .before .before .before .before .pre .0) (sym (c .before .before .before .before .before .before .before .before .before .before .before .before .before .present .ensures) ∙ c .before .before .before .before .before .before .before .before .before .before .before .before .if1 .taken)) _ _ _ _ _ (c .before .before .before .before .before .before .before .before .before .before .settings-at .ensures) refl (c .before .before .before .before .before .before .before .ends .ensures) (c .before .before .before .before .before .before .counted-down .ensures) (c .before .before .before .before .before .with-timer .ensures) (c .before .before .before .put-settings .ensures) (c .if2 .left)
 
 -- src/lib.rt:86:1
 same-length-4 : tie.Need-same-length-4
@@ -92,7 +92,7 @@ tick-spec =
     present-requires
     settings-at-requires
     ends-requires
-    countdown-requires
+    counted-down-requires
     with-timer-requires
     put-settings-requires
     current-settings-requires
