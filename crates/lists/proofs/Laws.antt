@@ -3,11 +3,11 @@ use Prim.Native.Nat.{ℕ, zero, suc, _+_, _-_, _*_, _^_, _≤_, _<_}
 use native.Mathlib.Omega.{arith}
 use mathlib.Core.Path.{_≡_, refl, sym, ap, _∙_}
 use mathlib.Core.Bool.{Bool, true, false, _&&_, not}
-use mathlib.Core.List.{List, [], _∷_, map}
-use lib.ListN.{length, drop}
+use mathlib.Core.List.{List, map}
+use lib.ListN.{drop}
 use lib.Seq.{drop-drop}
 use Rattle.model.specs.Octets.{Octets}
-use Rattle.model.specs.Reasons.{_⇒_, passes, recordRepeated}
+use Rattle.model.specs.Reasons.{passes}
 use Rattle.model.specs.Tables.{TableRule, chop, distinct}
 use Rattle.model.specs.Immediate.{recordChecks}
 use Rattle.model.specs.Proof.Rows.{ruleAt}

@@ -1,7 +1,6 @@
 -- `lists::all_fine` meets its contract. The invariant: the records that are left tell what all tell.
-use mathlib.Core.Path.{_≡_, refl, sym, _∙_}
+use mathlib.Core.Path.{_≡_, refl, _∙_}
 use Prim.Native.Nat.{_+_, _*_, _≤_}
-use native.Mathlib.Omega.{arith}
 use lib.ListN.{length}
 use Rattle.model.specs.Proof.Rows.{ruleAt}
 use Rattle.lists.proofs.Laws.{fineFrom, fine-end, fine-fails, fine-goes, next-fits, here-fits}
