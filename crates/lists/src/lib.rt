@@ -53,7 +53,7 @@ fn next<'a>(r: Reader<'a>, k: usize) -> Key
 // The record of table k at a place of a packet, read through a reader.
 fn read_key(packet: &[u8], at: usize, k: usize) -> Key
     requires { ⌜ (k < 6) × (at + ruleAt k .size ≤ length (now packet)) ⌝ }
-    ensures { λ r. ⌜ r ≡ keyAt (now (packet .entry)) at k ⌝ }
+    ensures { λ key. ⌜ key ≡ keyAt (now (packet .entry)) at k ⌝ }
 {
     next(reader_at(packet, at), k)
 }

@@ -19,10 +19,10 @@ loop-holds : tie.Need-loop-holds Inv-loop μ-loop
 loop-holds c = (search needs, refl)
 
 read-key-requires : tie.Need-read-key-requires Inv-loop μ-loop
-read-key-requires c κs = (search needs, here-fits _ _ _ _ (c .loop-test .taken) (c .before .loop .inv .0))
+read-key-requires c κs = (search needs, here-fits _ _ _ _ (search needs) (c .before .loop .inv .0))
 
 returns : tie.Need-returns Inv-loop μ-loop
-returns c = fine-fails _ _ _ _ _ (c .before .before .read-key .ensures) (c .before .before .before .loop-test .taken) (not-true _ (c .if1 .taken)) ∙ c .before .before .before .before .loop .inv .1
+returns c = fine-fails _ _ _ _ _ (c .before .before .read-key .ensures) (search needs) (not-true _ (c .if1 .taken)) ∙ c .before .before .before .before .loop .inv .1
 
 sub-left : tie.Need-sub-left Inv-loop μ-loop
 sub-left c = search needs
@@ -32,8 +32,8 @@ loop-less c = search needs
 
 loop-again : tie.Need-loop-again Inv-loop μ-loop
 loop-again c = (
-  next-fits _ _ _ _ _ (c .before .before .read-key .ensures) (c .before .before .before .loop-test .taken) _ (c .before .before .before .before .loop .inv .0),
-  fine-goes _ _ _ _ _ (c .before .before .read-key .ensures) (c .before .before .before .loop-test .taken) (not-false _ (c .if1 .left)) ∙ c .before .before .before .before .loop .inv .1,
+  next-fits _ _ _ _ _ (c .before .before .read-key .ensures) (search needs) _ (c .before .before .before .before .loop .inv .0),
+  fine-goes _ _ _ _ _ (c .before .before .read-key .ensures) (search needs) (not-false _ (c .if1 .left)) ∙ c .before .before .before .before .loop .inv .1,
 )
 
 returns-2 : tie.Need-returns-2 Inv-loop μ-loop
