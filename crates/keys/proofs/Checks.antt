@@ -1,22 +1,19 @@
 -- Checks in order: which reason a list of checks gives, and with which status.
-use Prim.Native.Nat.{ℕ, zero, suc, _+_, _-_, _*_, _^_, _≤_, _<_}
+use Prim.Native.Nat.{ℕ, _+_, _*_, _≤_, _<_}
 use native.Mathlib.Omega.{arith}
-use native.Mathlib.Nat.{mul-suc, mul-le-mul-right}
+use native.Mathlib.Nat.{mul-le-mul-right}
 use mathlib.Core.Path.{_≡_, refl, sym, ap, _∙_}
-use mathlib.Core.Bool.{Bool, true, false, _&&_, not}
-use mathlib.Core.List.{List, [], _∷_, _++_, map}
+use mathlib.Core.Bool.{Bool, true, false}
+use mathlib.Core.List.{List, [], _∷_, _++_}
 use mathlib.Core.Option.{Option, none, some}
-use lib.ListN.{length, take, drop, length-drop}
-use lib.Seq.{length-take-le}
 use lib.Dec.{eqb}
-use borrow.Author.Tests.{eq-eqb, ne-eqb}
+use borrow.Author.Tests.{ne-eqb}
 use Rattle.model.specs.Octets.{Octets}
 use Rattle.model.specs.Reasons.{Reason, Check, firstOf, nothing, passes, statusOf}
-use Rattle.model.specs.Tables.{TableRule, chop, distinct, every, recordOk, recordsOk}
+use Rattle.model.specs.Tables.{TableRule}
 use Rattle.model.specs.Immediate.{recordChecks}
 use Rattle.model.specs.Proof.Tests.{no-way}
-use Rattle.records.specs.Slots.{recordsAt, list-records}
-use Rattle.keys.specs.Lists.{valueChecks}
+use Rattle.lists.specs.Lists.{valueChecks}
 
 -- 1. One check, and checks in two parts ---------------------------------------------------------------------------------------------------------
 
@@ -60,27 +57,6 @@ append-passes (c ∷ xs) ys e = go (c .fails) e (λ f. append-passes xs ys f)
     go true f ih = let z : _≡_ {A = ℕ} 0 1 = cc in absurd (omega arith)
     go false f ih = ih f
 
--- whether checks pass, part by part
-passes-nil : passes [] ≡ true
-unfolding passes firstOf nothing
-passes-nil = refl
-
-pub passes-cons : (c : Check) (cs : List Check) → passes (c ∷ cs) ≡ not (c .fails) && passes cs
-unfolding passes firstOf nothing
-passes-cons c cs = go (c .fails)
-  where
-    go : (b : Bool) → nothing (elim b [ true ↦ some (c .reason) | false ↦ firstOf cs ]) ≡ not b && nothing (firstOf cs)
-    go true = refl
-    go false = refl
-
-pub passes-append : (xs ys : List Check) → passes (xs ++ ys) ≡ passes xs && passes ys
-passes-append [] ys = rw passes-nil
-passes-append (x ∷ xs) ys = passes-cons x (xs ++ ys) ∙ rw (passes-append xs ys, passes-cons x xs) (go (not (x .fails)) (passes xs) (passes ys))
-  where
-    go : (a b c : Bool) → a && (b && c) ≡ a && b && c
-    go true b c = refl
-    go false b c = refl
-
 -- 2. The status -----------------------------------------------------------------------------------------------------------------------------------
 
 -- every reason of the checks has this status
@@ -122,32 +98,6 @@ values-status u h rs = statuses-append 0x0D (recordChecks u rs) _ (each rs) (ref
     each : (rs : List Octets) → Statuses 0x0D (recordChecks u rs)
     each [] = tt
     each (r ∷ rs) = statuses-append 0x0D (u .checks r) (recordChecks u rs) (h r) (each rs)
-
--- records cut from enough octets keep their rule if none of their checks fails
-each-ok : (u : TableRule) (n : ℕ) (o : Octets) → u .size * n ≤ length o → every (recordOk u) (chop (u .size) n o) ≡ passes (recordChecks u (chop (u .size) n o))
-unfolding chop recordChecks every recordOk passes firstOf nothing
-each-ok u zero o h = refl
-each-ok u (suc n) o h =
-    let e : u .size * suc n ≡ u .size * n + u .size = mul-suc (u .size) n in
-    let z : eqb (length (take (u .size) o)) (u .size) ≡ true = eq-eqb (length (take (u .size) o)) (u .size) (length-take-le (u .size) o (omega arith)) in
-    rw (z, each-ok u n (drop (u .size) o) (rw length-drop (omega arith)), passes-append (u .checks (take (u .size) o)) (recordChecks u (chop (u .size) n (drop (u .size) o))))
-
--- and so a list is fine where its values are
-pub values-ok : (u : TableRule) (n : ℕ) (o : Octets) → u .size * n ≤ length o → recordsOk u (chop (u .size) n o) ≡ passes (valueChecks u (chop (u .size) n o))
-unfolding recordsOk valueChecks
-values-ok u n o h = rw (each-ok u n o h, passes-append (recordChecks u (chop (u .size) n o)), passes-cons, passes-nil) (go (passes (recordChecks u (chop (u .size) n o))) (distinct (map (u .key) (chop (u .size) n o))))
-  where
-    go : (a b : Bool) → a && b ≡ a && (not (not b) && true)
-    go true true = refl
-    go true false = refl
-    go false b = refl
-
--- what `records::keeps_rule` says of a list, whose slots are all in use
-pub list-is : (u : TableRule) (o : Octets) (from n w : ℕ) (r : Bool) → from + u .size * n ≤ length o → w ≡ 2 ^ n - 1 → r ≡ recordsOk u (recordsAt o (u .size) from n w)
-    → r ≡ passes (valueChecks u (chop (u .size) n (drop from o)))
-list-is u o from n w r h ew er =
-    let e : recordsAt o (u .size) from n w ≡ chop (u .size) n (drop from o) = rw ew (list-records (u .size) n (drop from o)) in
-    er ∙ rw e (values-ok u n (drop from o) (rw length-drop (omega arith)))
 
 -- 4. Lengths ----------------------------------------------------------------------------------------------------------------------------------------
 

@@ -27,7 +27,8 @@ use Rattle.replies.specs.declared.Answer.{Answer}
 use Rattle.replies.specs.declared.Answer.the-variants.{Done, Refused}
 use Rattle.outcomes.specs.Outcomes.{served}
 use Rattle.outcomes.specs.Endings.{served-length, served-status, served-done, length-complete}
-use Rattle.keys.specs.Lists.{keyList, valueChecks, ListOf}
+use Rattle.lists.specs.Lists.{valueChecks}
+use Rattle.keys.specs.Lists.{keyList, ListOf}
 use Rattle.keys.proofs.Checks.{Statuses, FailsWith, fails-with, values-status, first-fails, first-holds, passes-none, append-fails, append-passes}
 
 -- 1. The three lists ------------------------------------------------------------------------------------------------------------------------------

@@ -1,13 +1,11 @@
--- The key lists by the number of the table that they load, and the checks that their records must pass.
+-- The key lists by the number of the table that they load.
 use Prim.Native.Nat.{ℕ, zero, suc, _+_, _*_, _≤_}
 use mathlib.Core.Path.{_≡_}
-use mathlib.Core.Bool.{Bool, not}
-use mathlib.Core.List.{List, [], _∷_, _++_, map}
+use mathlib.Core.Bool.{Bool}
 use lib.ListN.{length}
 use Rattle.model.specs.Octets.{Octets, u16}
-use Rattle.model.specs.Reasons.{Check, _⇒_, passes, recordRepeated}
-use Rattle.model.specs.Tables.{TableRule, distinct}
-use Rattle.model.specs.Immediate.{KeyList, recordChecks, linkKeyList, longTermKeyList, identityKeyList}
+use Rattle.model.specs.Reasons.{passes}
+use Rattle.model.specs.Immediate.{KeyList, linkKeyList, longTermKeyList, identityKeyList}
 use Rattle.model.specs.Proof.Rows.{ruleAt}
 
 -- the list that loads table k: 1 link keys, 2 long term keys, 3 identity keys
@@ -16,10 +14,6 @@ keyList zero = linkKeyList
 keyList (suc zero) = linkKeyList
 keyList (suc (suc zero)) = longTermKeyList
 keyList (suc (suc (suc k))) = identityKeyList
-
--- the values of a list's records: each record's own, and that none is repeated
-unfoldable pub valueChecks : TableRule → List Octets → List Check
-valueChecks u rs = recordChecks u rs ++ ((not (distinct (map (u .key) rs)) ⇒ recordRepeated) ∷ [])
 
 -- ps is as long as a list for table k is: its count stands at `at`, and `fine` says whether what stands before the count passes its checks
 pub record ListOf (k at : ℕ) (fine : Bool) (ps : Octets) : Type 0 where

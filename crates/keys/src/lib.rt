@@ -2,14 +2,12 @@
 ghost use mathlib.Core.Path.{_≡_};
 ghost use Prim.Native.Nat.{_+_, _*_, _≤_, _<_};
 ghost use mathlib.Core.List.{_++_};
-ghost use lib.ListN.{length, drop, take};
+ghost use lib.ListN.{length, take};
 ghost use lib.Dec.{eqb};
 ghost use Rattle.model.specs.Octets.{commandComplete, commandStatus, u16};
 ghost use Rattle.model.specs.Octets as M;
 ghost use Rattle.model.specs.State.{tableOf, withHost};
-ghost use Rattle.model.specs.Reasons.{passes};
-ghost use Rattle.model.specs.Tables.{begins, chop, holds};
-ghost use Rattle.model.specs.Proof.Rows.{ruleAt};
+ghost use Rattle.model.specs.Tables.{begins, holds};
 ghost use Rattle.octets.specs.Parts.{writeAt};
 ghost use Rattle.replies.specs.declared.Answer.the-variants.{Done, Refused};
 ghost use Rattle.model.specs.Immediate.{anyKey, identityKeyList, linkKeyList, loadKeys, longTermKeyList, unpairDevice, unpaired};
@@ -18,7 +16,7 @@ ghost use Rattle.layout.specs.Places.{Ready, controllerOf, putController};
 ghost use Rattle.replies.specs.Answers.{Gives};
 ghost use Rattle.outcomes.specs.Outcomes.{served};
 ghost use Rattle.keys.specs.Forget.{Forgets};
-ghost use Rattle.keys.specs.Lists.{keyList, valueChecks, ListOf};
+ghost use Rattle.keys.specs.Lists.{keyList, ListOf};
 use replies::Answer;
 
 // A refusal by Command Status, 9 octets.
@@ -42,15 +40,6 @@ fn list_fits(ps: &[u8], at: usize, size: usize) -> bool
     false
 }
 
-// Whether every record of a list keeps the rule of table k and none is repeated: the whole list is checked before any octet is stored.
-fn list_ok(k: usize, ps: &[u8], from: usize, n: usize) -> bool
-    requires { ⌜ (k < 6) × (n ≤ 32) × (from + ruleAt k .size * n ≤ length (now ps)) ⌝ }
-    ensures { λ r. ⌜ r ≡ passes (valueChecks (ruleAt k) (chop (ruleAt k .size) n (drop from (now (ps .entry))))) ⌝ }
-{
-    let w = records::list_word(n);
-    records::keeps_rule(k, ps, from, n, w)
-}
-
 // A list of keys for table k, of the right length: its count stands at `at`, and `fine` says whether what stands before the count is valid.
 // Count, values and support are checked in this order; then the list replaces the whole table.
 fn load_list(
@@ -71,7 +60,7 @@ fn load_list(
         return refuse(reply, index, code, 0x07);
     }
     if fine {
-        if list_ok(k, ps, at + 2, n) {
+        if lists::list_ok(k, ps, at + 2, n) {
             let hardware = layout::hardware_at(state, index);
             if records::supports(k, hardware.supported) {
                 let place = layout::table_place(index, k);

@@ -74,7 +74,7 @@ size-least (suc (suc (suc (suc (suc (suc k)))))) l = absurd (omega arith)
 -- 2. Checks as tests of octets where they lie -----------------------------------------------------------------------------------------------
 
 -- one check, and the rest
-passes-cons : (c : Check) (cs : List Check) → passes (c ∷ cs) ≡ not (c .fails) && passes cs
+pub passes-cons : (c : Check) (cs : List Check) → passes (c ∷ cs) ≡ not (c .fails) && passes cs
 unfolding passes firstOf nothing
 passes-cons c cs = go (c .fails)
   where
@@ -82,11 +82,11 @@ passes-cons c cs = go (c .fails)
     go true = refl
     go false = refl
 
-passes-none : passes [] ≡ true
+pub passes-none : passes [] ≡ true
 unfolding passes firstOf nothing
 passes-none = refl
 
-passes-append : (xs ys : List Check) → passes (xs ++ ys) ≡ passes xs && passes ys
+pub passes-append : (xs ys : List Check) → passes (xs ++ ys) ≡ passes xs && passes ys
 passes-append [] ys = rw passes-none
 passes-append (x ∷ xs) ys = passes-cons x (xs ++ ys) ∙ rw (passes-append xs ys, passes-cons x xs) (go (not (x .fails)) (passes xs) (passes ys))
   where
