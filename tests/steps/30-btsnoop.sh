@@ -92,9 +92,7 @@ while read -r line; do says "$line"; done << 'WORDS'
 @ MGMT Close: B {0x0002}
 WORDS
 for words in "Busy (0x0a)" "Failed (0x03)" "Invalid Parameters (0x0d)" "Invalid Index (0x11)" "Success (0x00)"; do says " Status: $words"; done
-if grep -iqE 'malformed|unknown|invalid packet size|too short' "$out/btmon.txt"; then
-    grep -inE 'malformed|unknown|invalid packet size|too short' "$out/btmon.txt"
-    exit 1
-fi
+# Nothing that btmon could not read.
+diff <(grep -iE '^@ .*: unknown|malformed|invalid packet size|too short packet' "$out/btmon.txt" || true) /dev/null
 diff <(grep -c ' command \| event ' "$out/shift.txt") <(grep -c '^@ MGMT Command\|^@ MGMT Event' "$out/btmon.txt")
 echo "btmon: every packet in words"
