@@ -2,21 +2,15 @@
  * A small host that plays a shift: it starts from an image or fresh, plugs two controllers, powers them with a slow radio while two clients
  * interleave, loads keys, lets the clock run, saves by write-then-rename and loads again. Every call is printed in words with its octets.
  *
- *     host [IMAGE]      IMAGE is read if it is there, and written at the end
+ *     host [IMAGE [LOG]]      IMAGE is read if it is there, and written at the end; LOG gets every packet (call_log.h)
  */
 #include <errno.h>
 #include <stdio.h>
 #include <stdlib.h>
 #include <string.h>
 
-#include "hub.h"
-
-#ifdef HOST_LOG
 #include "call_log.h"
-#else
-#define log_packet(packet, length) ((void)(packet), (void)(length))
-#define log_written(reply, count) ((void)(reply), (void)(count))
-#endif
+#include "hub.h"
 
 static uint8_t state[HUB_STATE_LEN];
 static uint8_t reply[HUB_IMAGE_MAX];
@@ -36,19 +30,28 @@ static void print_octets(const char *what, const uint8_t *octets, size_t count)
 }
 
 /* Says what came of a call, and gives its answer back. */
-static unsigned told(const char *what, uint64_t result)
+static unsigned said(const char *what, uint64_t result)
 {
     printf("%s: %s\n", what, answer_name(hub_answer(result)));
-    if (hub_count(result) > 0) {
+    if (hub_count(result) > 0)
         print_octets("wrote", reply, hub_count(result));
-        log_written(reply, hub_count(result));
-    }
     return hub_answer(result);
 }
 
-/* Sends a command packet: code, index, parameters. */
-static unsigned send(const char *what, uint16_t code, uint16_t index, const uint8_t *params, size_t length)
+/* The same of a call that no client made, with a note and what it wrote in the log. */
+static unsigned told(const char *what, uint64_t result)
 {
+    log_line(NULL, "note", what, NULL, 0);
+    if (hub_count(result) > 0)
+        log_line(NULL, "wrote", NULL, reply, hub_count(result));
+    return said(what, result);
+}
+
+/* A client sends a command packet: code, index, parameters. */
+static unsigned send(const char *client, const char *does, uint16_t code, uint16_t index, const uint8_t *params, size_t length)
+{
+    char what[128];
+    uint64_t result;
     uint8_t packet[2048];
     packet[0] = (uint8_t)code;
     packet[1] = (uint8_t)(code >> 8);
@@ -58,13 +61,17 @@ static unsigned send(const char *what, uint16_t code, uint16_t index, const uint
     packet[5] = (uint8_t)(length >> 8);
     memcpy(packet + 6, params, length);
     print_octets("packet", packet, 6 + length);
-    log_packet(packet, 6 + length);
-    return told(what, hub_command(state, sizeof state, packet, 6 + length, reply, sizeof reply));
+    log_line(client, "sent", NULL, packet, 6 + length);
+    result = hub_command(state, sizeof state, packet, 6 + length, reply, sizeof reply);
+    if (hub_count(result) > 0)
+        log_line(client, "wrote", NULL, reply, hub_count(result));
+    snprintf(what, sizeof what, "Client %s %s", client, does);
+    return said(what, result);
 }
 
-static unsigned send_octet(const char *what, uint16_t code, uint16_t index, uint8_t value)
+static unsigned send_octet(const char *client, const char *does, uint16_t code, uint16_t index, uint8_t value)
 {
-    return send(what, code, index, &value, 1);
+    return send(client, does, code, index, &value, 1);
 }
 
 /* The radio has done what a started command asked for. */
@@ -105,7 +112,7 @@ static int save(const char *path)
     char fresh[4096];
     uint64_t result = hub_save(state, sizeof state, reply, sizeof reply);
     FILE *file;
-    told("Save", result);
+    said("Save", result);
     if (hub_answer(result) != HUB_DONE || !path)
         return hub_answer(result) == HUB_DONE;
     if (snprintf(fresh, sizeof fresh, "%s.new", path) >= (int)sizeof fresh)
@@ -130,16 +137,16 @@ static void unplug_all(void)
 static void interleave(void)
 {
     static const uint8_t timed[3] = { 1, 30, 0 };
-    send_octet("Client A sets controller 0 powered", 0x0005, 0, 1);
-    send_octet("Client B sets controller 0 connectable while the radio works: Busy", 0x0007, 0, 1);
-    send_octet("Client B sets controller 1 powered meanwhile", 0x0005, 1, 1);
-    send_octet("Client B sets controller 0 bondable: never Busy", 0x0009, 0, 1);
+    send_octet("A", "sets controller 0 powered", 0x0005, 0, 1);
+    send_octet("B", "sets controller 0 connectable while the radio works: Busy", 0x0007, 0, 1);
+    send_octet("B", "sets controller 1 powered meanwhile", 0x0005, 1, 1);
+    send_octet("B", "sets controller 0 bondable: never Busy", 0x0009, 0, 1);
     radio_reports("The radio of controller 1 fails with status 0x03", 1, 0x03);
     radio_reports("The radio of controller 0 is done", 0, 0);
     radio_reports("A report where nothing is under way", 0, 0);
-    send_octet("Client B sets controller 0 connectable", 0x0007, 0, 1);
+    send_octet("B", "sets controller 0 connectable", 0x0007, 0, 1);
     radio_reports("The radio of controller 0 is done", 0, 0);
-    send("Client A sets controller 0 discoverable for 30 seconds", 0x0006, 0, timed, sizeof timed);
+    send("A", "sets controller 0 discoverable for 30 seconds", 0x0006, 0, timed, sizeof timed);
     radio_reports("The radio of controller 0 is done", 0, 0);
 }
 
@@ -148,7 +155,7 @@ static void load_keys(void)
 {
     uint8_t list[2 + 2 * 36] = { 2, 0 };
     static const uint8_t device[8] = { 9, 8, 7, 6, 5, 0xC4, 2, 2 };
-    static const uint8_t uuid[17] = { 0x0D, 0x18, 0, 0, 0, 0x10, 0, 0x80, 0, 0, 0x80, 0x5F, 0x9B, 0x34, 0xFB, 0, 0x20 };
+    static const uint8_t uuid[17] = { 0xFB, 0x34, 0x9B, 0x5F, 0x80, 0, 0, 0x80, 0, 0x10, 0, 0, 0x0D, 0x18, 0, 0, 0x20 };
     for (unsigned k = 0; k < 2; k++) {
         uint8_t *key = list + 2 + 36 * k;
         key[0] = (uint8_t)(k + 1);
@@ -156,21 +163,25 @@ static void load_keys(void)
         key[6] = 2;
         key[9] = 16;
     }
-    send("Client A loads two long term keys", 0x0013, 0, list, sizeof list);
+    send("A", "loads two long term keys", 0x0013, 0, list, sizeof list);
     memcpy(list + 2 + 36, list + 2, 36);
-    send("Client B loads a list that names one device twice: refused, the keys stay", 0x0013, 0, list, sizeof list);
-    send("Client A adds a device", 0x0033, 0, device, sizeof device);
-    send("Client A adds a UUID with hint 0x20", 0x0010, 0, uuid, sizeof uuid);
+    send("B", "loads a list that names one device twice: refused, the keys stay", 0x0013, 0, list, sizeof list);
+    send("A", "adds a device", 0x0033, 0, device, sizeof device);
+    send("A", "adds the UUID of Heart Rate, 0x180D, with hint 0x20", 0x0010, 0, uuid, sizeof uuid);
 }
 
-int main(int argc, char **argv)
+/* The clients come before the first controller and stay to the end. */
+static void clients(const char *word)
+{
+    log_line("A", word, NULL, NULL, 0);
+    log_line("B", word, NULL, NULL, 0);
+}
+
+/* The shift: two controllers, two clients, a slow radio; an image is written and read on the way. */
+static int shift(const char *path)
 {
     static const uint8_t address[6] = { 0x11, 0x22, 0x33, 0x44, 0x55, 0x66 };
     static const uint8_t address1[6] = { 0x12, 0x22, 0x33, 0x44, 0x55, 0x66 };
-    const char *path = argc > 1 ? argv[1] : NULL;
-    if (!start(path))
-        return EXIT_FAILURE;
-    unplug_all();
     told("Plug a dual-mode controller at 0", hub_plug(state, sizeof state, 0, address, 6, 9, 15, 0x0281, reply, sizeof reply));
     told("Plug another at 1", hub_plug(state, sizeof state, 1, address1, 6, 9, 15, 0x0281, reply, sizeof reply));
     clock_reads(1000);
@@ -178,11 +189,28 @@ int main(int argc, char **argv)
     load_keys();
     clock_reads(1029);
     clock_reads(1031);
-    send_octet("Client A sets controller 1 powered", 0x0005, 1, 1);
+    send_octet("A", "sets controller 1 powered", 0x0005, 1, 1);
     told("Controller 1 is unplugged while its radio works", hub_unplug(state, sizeof state, 1, reply, sizeof reply));
-    send("Client B reads the controllers", 0x0003, 0xFFFF, address, 0);
+    send("B", "reads the controllers", 0x0003, 0xFFFF, address, 0);
     if (!save(path) || (path && !start(path)))
+        return 0;
+    send("B", "reads controller 0: unpowered, its keys kept", 0x0004, 0, address, 0);
+    return 1;
+}
+
+int main(int argc, char **argv)
+{
+    const char *path = argc > 1 ? argv[1] : NULL;
+    int done;
+    if (!start(path))
         return EXIT_FAILURE;
-    send("Client B reads controller 0: unpowered, its keys kept", 0x0004, 0, address, 0);
-    return EXIT_SUCCESS;
+    unplug_all();
+    if (argc > 2 && !log_start(argv[2])) {
+        printf("%s: %s\n", argv[2], strerror(errno));
+        return EXIT_FAILURE;
+    }
+    clients("open");
+    done = shift(path);
+    clients("close");
+    return log_end() && done ? EXIT_SUCCESS : EXIT_FAILURE;
 }

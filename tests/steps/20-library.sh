@@ -1,19 +1,38 @@
 #!/usr/bin/env bash
-# the library from C: its header, its constants, a shift under valgrind, a million random calls beside the independent hub
+# the library from C: its header, alone and beside mgmt.h, its constants, a shift under valgrind, a million random calls beside the independent hub
 set -euo pipefail
 cd "$(dirname "$0")/../.."
+export LC_ALL=C
 command -v valgrind > /dev/null || { apt-get update -qq; apt-get install -y -qq valgrind; } > /dev/null
 rt staticlib hub > /dev/null
+lib=target/staticlib/libhub.a
 out=target/tests/c
 mkdir -p "$out"
 flags="-Wall -Wextra -Werror -Iinclude"
-gcc -std=c11 -O2 $flags tests/c/constants.c target/staticlib/libhub.a -o "$out/constants"
-g++ -std=c++17 -O2 $flags -x c++ tests/c/constants.c -x none target/staticlib/libhub.a -o "$out/constants++"
+
+# The header by itself; it and the library bring no names but hub_ and HUB_.
+gcc -std=c11 $flags -pedantic-errors -fsyntax-only -x c include/hub.h
+g++ -std=c++17 $flags -pedantic-errors -fsyntax-only -x c++ include/hub.h
+printf '#include <stddef.h>\n#include <stdint.h>\n' | gcc -std=c11 -dM -E -x c - | sort > "$out/names.without"
+gcc -std=c11 -dM -E -x c include/hub.h | sort > "$out/names.with"
+diff <(comm -13 "$out/names.without" "$out/names.with" | grep -v '^#define HUB_' || true) /dev/null
+diff <(nm -g --defined-only "$lib" | awk 'NF == 3 { print $3 }' | sort) \
+    <(printf 'hub_%s\n' clock command load plug report save unplug)
+
+gcc -std=c11 -O2 $flags tests/c/constants.c "$lib" -o "$out/constants"
+g++ -std=c++17 -O2 $flags -x c++ tests/c/constants.c -x none "$lib" -o "$out/constants++"
 "$out/constants"
 "$out/constants++" > /dev/null
-gcc -std=c11 -g -O1 $flags examples/host.c target/staticlib/libhub.a -o "$out/host"
+for order in -UMGMT_FIRST -DMGMT_FIRST; do
+    gcc -std=c11 -O2 $flags "$order" tests/c/beside_mgmt.c "$lib" -o "$out/beside"
+    g++ -std=c++17 -O2 $flags "$order" -x c++ tests/c/beside_mgmt.c -x none "$lib" -o "$out/beside++"
+    "$out/beside"
+    "$out/beside++" > /dev/null
+done
+
+gcc -std=c11 -g -O1 $flags examples/host.c "$lib" -o "$out/host"
 rm -f "$out/shift.image"
-valgrind --quiet --error-exitcode=9 "$out/host" "$out/shift.image" > "$out/first.txt"
+valgrind --quiet --error-exitcode=9 "$out/host" "$out/shift.image" "$out/shift.log" > "$out/first.txt"
 valgrind --quiet --error-exitcode=9 "$out/host" "$out/shift.image" > "$out/second.txt"
 cd tests
 export HUB_LIB_DIR="$PWD/../target/staticlib" CARGO_TARGET_DIR="$PWD/../target/tests"

@@ -1,0 +1,15 @@
+#!/usr/bin/env bash
+# a busy state with each octet changed in turn, and bad input of every length, from C; a part of both under valgrind
+set -euo pipefail
+cd "$(dirname "$0")/../.."
+command -v valgrind > /dev/null || { apt-get update -qq; apt-get install -y -qq valgrind; } > /dev/null
+rt staticlib hub > /dev/null
+out=target/tests/c
+mkdir -p "$out"
+for program in one_octet bad_input; do
+    gcc -std=c11 -g -O1 -Wall -Wextra -Werror -Iinclude "tests/c/$program.c" target/staticlib/libhub.a -o "$out/$program"
+    "$out/$program"
+done
+# Only some octets and lengths here; the whole takes minutes (tests/README.md).
+valgrind --quiet --error-exitcode=9 "$out/one_octet" "${HUB_STRIDE:-31}"
+valgrind --quiet --error-exitcode=9 "$out/bad_input" "${HUB_STRIDE:-101}"
