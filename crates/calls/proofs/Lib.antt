@@ -1,3 +1,2 @@
 pub mod Plugs
-pub mod Timers
 pub mod Reading

@@ -35,7 +35,7 @@ use Rattle.outcomes.specs.Outcomes.{ended}
 use Rattle.outcomes.specs.Endings.{ends-done}
 use Rattle.calls.specs.Ticks.{Ticked, tickEvent, tickedAt}
 use Rattle.calls.proofs.Plugs.{bad-argument}
-use Rattle.calls.proofs.Timers.{tick-ok}
+use Rattle.model.specs.Proof.Stays.{tick-ok}
 
 -- 1. One index ------------------------------------------------------------------------------------------------------------------------------------
 

@@ -21,7 +21,7 @@ use Rattle.model.specs.Reasons.{passes}
 use Rattle.model.specs.Tables.{TableRule, chop, distinct, empty, entries, every, recordsOk, supportOk, tableRules, uuidRule}
 use Rattle.model.specs.Image.{nameOk, radioOk}
 use Rattle.model.specs.Layout.{slotsBack}
-use Rattle.model.specs.Proof.Rows.{ruleAt}
+use Rattle.model.specs.Tables.{ruleAt}
 use Rattle.model.specs.Proof.Tests.{and-true, or-true}
 use Rattle.model.specs.Rules.{setConnectable, setDiscoverable, setLowEnergy, setPowered}
 use Rattle.layout.specs.Places.{base, controllerOf, placeOf, presentAt, sizes}

@@ -18,7 +18,7 @@ use Rattle.model.specs.Image.{nameOk, radioOk}
 use Rattle.model.specs.WellFormed.{controllerOk, openOk, slotOk, tablesOk, widthsOk}
 use Rattle.model.specs.Layout.{block, controllerBack, controllerIn, controllerPart, hardwarePart, openBack, openIn, openPart, openWith, regions, settingsPart, stateLength, tablesBack}
 use Rattle.model.specs.Meanings.{stateOk}
-use Rattle.model.specs.Proof.Rows.{fit-widths}
+use Rattle.model.specs.Proof.Parts.{fit-widths}
 use Rattle.model.specs.Proof.Layout.{length-open}
 use Rattle.model.specs.Proof.Tables.{byte-at, same-refl}
 use Rattle.model.specs.Proof.Tests.{and-true, both}

@@ -7,7 +7,7 @@ ghost use Rattle.model.specs.Octets.{allZero, u16};
 ghost use Rattle.model.specs.Tables.{tableRules};
 ghost use Rattle.model.specs.Image.{nameOk};
 ghost use Rattle.model.specs.Meanings.{stateOk};
-ghost use Rattle.model.specs.Proof.Rows.{ruleAt};
+ghost use Rattle.model.specs.Tables.{ruleAt};
 ghost use Rattle.octets.specs.Parts.{part};
 ghost use Rattle.layout.specs.Places.{base, controllerOf};
 ghost use Rattle.rules.specs.Decisions.{isWait};

@@ -1,35 +1,34 @@
 -- One lemma for each way out of a command: from what its steps ensure to what the model says of it, over plain values.
 -- Assumes nothing.
-use mathlib.Core.Path.{_≡_, refl, ap, sym, _∙_}
-use Prim.Native.Nat.{ℕ, zero, suc, _+_, _*_, _-_, _≤_, _<_}
+use mathlib.Core.Path.{_≡_, refl, _∙_}
+use Prim.Native.Nat.{ℕ, _+_, _-_, _≤_, _<_}
 use native.Mathlib.Omega.{arith}
-use mathlib.Core.Bool.{Bool, true, false, _&&_, _||_, not}
+use mathlib.Core.Bool.{Bool, true, false, _&&_, not}
 use mathlib.Core.List.{List, [], _∷_, _++_}
-use mathlib.Core.Option.{Option, none, some}
-use lib.ListN.{length, take, drop, set}
+use mathlib.Core.Option.{none, some}
+use lib.ListN.{length, take, set}
 use lib.Seq.{take-all}
-use lib.Dec.{eqb, ltb, lit<}
+use lib.Dec.{lit<}
 use Rattle.model.specs.Octets.{Octets, event, commandComplete, commandStatus}
-use Rattle.model.specs.State.{Controller, Host, Table, tableOf, withHost, withTable}
+use Rattle.model.specs.State.{Controller, Table, tableOf, withTable}
 use Rattle.model.specs.Reasons.{Check, _⇒_, statusOf, firstOf, passes}
 use Rattle.model.specs.Reasons.{noFreeSlot, alreadyBlocked, notBlocked}
 use Rattle.model.specs.Tables.{holds, full, freed, added, stored, begins, deviceRule, blockedRule}
-use Rattle.model.specs.Rules.{Immediate, refuse, done, ImmediateRule}
-use Rattle.model.specs.Immediate.{unless, sized, addDevice, blockDevice, unblockDevice}
-use Rattle.model.specs.Layout.{decode, encode, region}
+use Rattle.model.specs.Rules.{done}
+use Rattle.model.specs.Immediate.{unless, addDevice, blockDevice, unblockDevice}
+use Rattle.model.specs.Layout.{region}
 use Rattle.model.specs.Proof.Region.{free}
-use Rattle.model.specs.Proof.Rows.{ruleAt}
+use Rattle.model.specs.Tables.{ruleAt}
 use Rattle.octets.specs.Parts.{part, writeAt}
 use Rattle.table.specs.Slots.{firstAt, tableAt}
-use Rattle.rules.specs.Decisions.{Fails}
-use Rattle.layout.specs.Places.{Ready, controllerOf, putController, tablePlace}
+use Rattle.layout.specs.Places.{Ready, controllerOf, tablePlace}
 use Rattle.records.proofs.Laws.{rule4, rule5}
 use Rattle.replies.specs.Answers.{Gives}
 use Rattle.replies.specs.declared.Answer.{Answer}
 use Rattle.replies.specs.declared.Answer.the-variants.{Done, Refused}
 use Rattle.outcomes.specs.Outcomes.{served}
 use Rattle.devices.specs.Slots.{slotFor}
-use Rattle.devices.proofs.Laws.{Told, fails-first, passes-first, fails-then, check-fails, check-next, check-after, held, missing, filled, open-slot, free-stored, room, no-room, record-stored, slots-freed, ends-length, ends-status, ends-address, ends-done, record-is, length-device}
+use Rattle.devices.proofs.Laws.{Told, fails-first, passes-first, fails-then, check-fails, check-next, check-after, held, missing, filled, open-slot, free-stored, room, no-room, record-stored, slots-freed, ends-length, ends-address, ends-done, record-is, length-device}
 
 -- 1. Sizes and checks of the tables -------------------------------------------------------------------------------------------------------------
 

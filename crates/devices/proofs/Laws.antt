@@ -1,28 +1,27 @@
 -- What the commands share: checks that pass or fail, the table of a present controller by its number, and the ways a command ends.
 -- Assumes nothing.
 use mathlib.Core.Path.{_≡_, refl, ap, sym, _∙_}
-use Prim.Native.Nat.{ℕ, zero, suc, _+_, _*_, _-_, _≤_, _<_}
+use Prim.Native.Nat.{ℕ, zero, _+_, _*_, _-_, _≤_, _<_}
 use native.Mathlib.Omega.{arith}
-use mathlib.Core.Bool.{Bool, true, false, _&&_, _||_, not}
+use mathlib.Core.Bool.{Bool, true, false, _&&_, not}
 use mathlib.Core.List.{List, [], _∷_, _++_}
 use mathlib.Core.Option.{Option, none, some}
-use lib.ListN.{length, take, drop, set, replicate, length-set, length-append, length-replicate}
+use lib.ListN.{length, take, set, length-set, length-append}
 use lib.Seq.{take-all, length-take-le}
-use lib.Dec.{eqb, ltb}
+use lib.Dec.{ltb}
 use borrow.Author.Tests.{eq-eqb, ne-eqb, le-ltb, lt-ltb}
 use Rattle.model.specs.Octets.{Octets, event, commandComplete, commandStatus}
-use Rattle.model.specs.State.{Controller, Host, Table, tableOf, withHost, withTable}
+use Rattle.model.specs.State.{Host, Table, tableOf, withHost, withTable}
 use Rattle.model.specs.Reasons.{Reason, Check, _⇒_, statusOf, firstOf, nothing, passes}
-use Rattle.model.specs.Tables.{TableRule, entries, holds, full, freed, replaced, added, stored}
+use Rattle.model.specs.Tables.{TableRule, holds, full, freed, replaced, added, stored}
 use Rattle.model.specs.Rules.{Immediate, refuse, done, ImmediateRule}
 use Rattle.model.specs.Immediate.{unless, sized}
 use Rattle.model.specs.Layout.{decode, encode, region}
 use Rattle.model.specs.Proof.Region.{Sized, free, added-set}
-use Rattle.model.specs.Proof.Rows.{ruleAt}
+use Rattle.model.specs.Tables.{ruleAt}
 use Rattle.model.specs.Proof.Tests.{no-way}
-use Rattle.octets.specs.Parts.{part, writeAt}
-use Rattle.table.specs.Slots.{Canonical, firstAt, tableAt, holds-first, full-free, free-le, replaced-set, sized-some, sized-freed, length-freed, freed-true}
-use Rattle.table.specs.Laws.{length-table}
+use Rattle.octets.specs.Parts.{part, writeAt, part-first}
+use Rattle.table.specs.Slots.{Canonical, firstAt, tableAt, holds-first, full-free, free-le, replaced-set, sized-some, sized-freed, length-freed}
 use Rattle.rules.specs.Decisions.{Fails}
 use Rattle.layout.specs.Places.{Ready, controllerOf, putController, tablePlace}
 use Rattle.layout.specs.Tables.{table-at, table-fits, table-long, table-sized, region-at, table-stored}
@@ -240,10 +239,6 @@ module _ (s : Octets) (i code : ℕ) (ps : Octets) (q : ImmediateRule) (n : ℕ)
 
 -- 5. Replies ------------------------------------------------------------------------------------------------------------------------------------
 
-pub take-part : (ps : Octets) (n : ℕ) → part ps 0 n ≡ take n ps
-unfolding part
-take-part ps n = refl
-
 pub whole-part : (ps : Octets) (n : ℕ) → length ps ≡ n → part ps 0 n ≡ ps
 unfolding part
 whole-part ps n e = take-all n ps (omega arith)
@@ -261,7 +256,7 @@ pub device-written : (d d1 d2 : Octets) (i code e : ℕ) (ps : Octets) → 7 ≤
 device-written d d1 d2 i code e ps h e1 e2 =
     let n : length (take 7 ps) ≡ 7 = length-take-le 7 ps h in
     let k : length (commandComplete i code 0 (take 7 ps)) ≡ 16 = length-complete i code 0 (take 7 ps) 7 n in
-    e2 ∙ rw (e1, take-part ps 7) (then d 0 (commandComplete i code 0 (take 7 ps)) (event e i ps) 16 (omega arith))
+    e2 ∙ rw (e1, part-first ps 7) (then d 0 (commandComplete i code 0 (take 7 ps)) (event e i ps) 16 (omega arith))
 
 pub length-device : (i code e : ℕ) (ps : Octets) → 7 ≤ length ps → length (commandComplete i code 0 (take 7 ps) ++ event e i ps) ≡ 22 + length ps
 length-device i code e ps h =

@@ -5,25 +5,24 @@ use Prim.Native.Nat.{ℕ, zero, suc, _+_, _*_, _-_, _≤_, _<_}
 use native.Mathlib.Omega.{arith}
 use mathlib.Core.Bool.{Bool, true, false, _&&_, _||_, not}
 use mathlib.Core.List.{List, [], _∷_, _++_, append-nil}
-use mathlib.Core.Option.{Option, none, some}
-use lib.ListN.{length, getD, take, drop, set, replicate, length-set, length-append}
+use mathlib.Core.Option.{none, some}
+use lib.ListN.{length, getD, set, replicate, length-set, length-append}
 use lib.Dec.{eqb, ltb, lit<}
 use borrow.Author.Tests.{eq-eqb, ne-eqb}
 use Rattle.model.specs.Octets.{Octets, allZero, same, event, commandComplete, commandStatus}
-use Rattle.model.specs.State.{Controller, Host, Table, tableOf, withHost, withTable}
-use Rattle.model.specs.Reasons.{Check, _⇒_, statusOf, firstOf, passes}
+use Rattle.model.specs.State.{Controller, Host, Table, tableOf, withTable}
+use Rattle.model.specs.Reasons.{_⇒_, statusOf, firstOf, passes}
 use Rattle.model.specs.Reasons.{noFreeSlot, uuidAbsent}
-use Rattle.model.specs.Tables.{entries, holds, full, freed, stored, begins, uuidRule}
-use Rattle.model.specs.Rules.{Immediate, refuse, done, ImmediateRule}
-use Rattle.model.specs.Immediate.{unless, sized, classOf, newClass, addUuid, removeUuid}
-use Rattle.model.specs.Layout.{decode, encode, region}
+use Rattle.model.specs.Tables.{holds, full, freed, stored, begins, uuidRule}
+use Rattle.model.specs.Rules.{done}
+use Rattle.model.specs.Immediate.{unless, classOf, newClass, addUuid, removeUuid}
+use Rattle.model.specs.Layout.{region}
 use Rattle.model.specs.Proof.Region.{Sized}
-use Rattle.model.specs.Proof.Rows.{ruleAt}
-use Rattle.octets.specs.Parts.{part, writeAt}
+use Rattle.model.specs.Tables.{ruleAt}
+use Rattle.octets.specs.Parts.{writeAt}
 use Rattle.table.specs.Slots.{firstAt, tableAt, holds-first, freed-all, sized-some, sized-freed, length-freed}
 use Rattle.table.specs.Laws.{length-table, sized-at, table-write}
-use Rattle.rules.specs.Decisions.{Fails}
-use Rattle.layout.specs.Places.{Ready, controllerOf, putController, tablePlace}
+use Rattle.layout.specs.Places.{Ready, controllerOf, tablePlace}
 use Rattle.records.proofs.Laws.{rule0}
 use Rattle.replies.specs.Answers.{Gives}
 use Rattle.replies.specs.declared.Answer.{Answer}

@@ -5,24 +5,24 @@ use Prim.Native.Nat.{ℕ, zero, suc, _+_, _*_, _-_, _≤_, _<_}
 use native.Mathlib.Omega.{arith}
 use native.Mathlib.Nat.{add-zero}
 use mathlib.Core.Bool.{Bool, true, false, _&&_, _||_, not}
-use mathlib.Core.List.{List, [], _∷_, _++_, append-nil, append-assoc}
-use mathlib.Core.Option.{Option, none, some}
-use lib.ListN.{length, getD, take, drop, set, length-append, length-take, drop-of-length-le}
-use lib.Seq.{take-take}
-use lib.Dec.{eqb, ltb, lit<}
-use borrow.Author.Tests.{eq-eqb, ne-eqb, le-ltb, lt-ltb}
+use mathlib.Core.List.{List, [], _∷_, _++_, append-nil}
+use mathlib.Core.Option.{none, some}
+use lib.ListN.{length, getD, take, drop, length-append, length-take, drop-of-length-le}
+use lib.Dec.{lit<}
+use borrow.Author.Tests.{ne-eqb, le-ltb, lt-ltb}
 use Rattle.model.specs.Octets.{Octets, octet, allZero, same, event, commandComplete, commandStatus}
-use Rattle.model.specs.State.{Controller, Host, Table, tableOf, withHost, withTable}
+use Rattle.model.specs.State.{Controller, Table, tableOf, withTable}
 use Rattle.model.specs.Reasons.{Check, _⇒_, statusOf, firstOf, nothing, passes}
-use Rattle.model.specs.Reasons.{addressTypeAbove2, addressZeroNotBredr, deviceAbsent}
+use Rattle.model.specs.Reasons.{addressZeroNotBredr, deviceAbsent}
 use Rattle.model.specs.Tables.{entries, holds, freed, begins}
-use Rattle.model.specs.Rules.{Immediate, refuse, done, ImmediateRule}
-use Rattle.model.specs.Immediate.{unless, sized, removals, removeDevice}
-use Rattle.model.specs.Layout.{decode, encode, region}
-use Rattle.octets.specs.Parts.{part, writeAt, write-split, part-part, length-part}
+use Rattle.model.specs.Rules.{done}
+use Rattle.model.specs.Immediate.{unless, removals, removeDevice}
+use Rattle.model.specs.Layout.{region}
+use Rattle.octets.specs.Parts.{part, writeAt, part-part, length-part, part-first}
 use Rattle.table.specs.Slots.{NextUsed, InUse, tableAt}
-use Rattle.table.specs.Laws.{in-use-entries, length-table, next-entries}
-use Rattle.layout.specs.Places.{Ready, controllerOf, putController, tablePlace}
+use Rattle.table.specs.Laws.{length-table}
+use Rattle.table.specs.Walk.{in-use-entries, next-entries}
+use Rattle.layout.specs.Places.{Ready, controllerOf, tablePlace}
 use Rattle.replies.specs.Answers.{Gives}
 use Rattle.replies.specs.declared.Answer.{Answer}
 use Rattle.replies.specs.declared.Answer.the-variants.{Done, Refused}
@@ -40,11 +40,6 @@ seven-of : (s : Octets) (p : ℕ) → take 7 (part s p 8) ≡ part s p 7
 unfolding part
 seven-of s p = rw add-zero at (part-part s p 8 0 7 (omega arith))
 
--- the first seven octets of a key
-first-seven : (key : Octets) → part key 0 7 ≡ take 7 key
-unfolding part
-first-seven key = refl
-
 -- a removal of all names every record
 pub goes-all : (all b : Bool) → all ≡ true → true ≡ (all || b)
 goes-all all b e = rw e
@@ -52,7 +47,7 @@ goes-all all b e = rw e
 -- a removal of one names the records with its address and type
 pub goes-same : (all : Bool) (key s : Octets) (p : ℕ) (b : Bool) → all ≡ false → b ≡ same (part key 0 7) (part s p 7) → b ≡ named all 7 key (part s p 8)
 unfolding begins
-goes-same all key s p b e q = q ∙ rw (e, seven-of s p, first-seven key)
+goes-same all key s p b e q = q ∙ rw (e, seven-of s p, part-first key 7)
 
 -- the events of one record
 one-goes : (i : ℕ) (m : Octets → Bool) (x : Octets) → m x ≡ true → removals i m (x ∷ []) ≡ event 0x001B i (take 7 x)

@@ -217,7 +217,7 @@ pub fn dispatch(state: &mut [u8], index: u64, code: u64, ps: &[u8], reply: &mut 
         if layout::present(state, index) {
             return controller_command(state, index, code, ps, reply);
         }
-        return devices::refuse(reply, index, code, 0x11);
+        return replies::refuse(reply, index, code, 0x11);
     }
-    devices::refuse(reply, index, code, 0x01)
+    replies::refuse(reply, index, code, 0x01)
 }

@@ -19,13 +19,15 @@ use Rattle.model.specs.Meanings.{stateOk}
 use Rattle.model.specs.Tables.{TableRule, blockedRule, deviceRule, entries, identityKeyRule, linkKeyRule, longTermKeyRule, tableRules, uuidRule}
 use Rattle.model.specs.Image.{controllerImage, controllerImages, image, radioOk, tableImage}
 use Rattle.model.specs.WellFormed.{plainOk, tableOk, tablesOk, wellFormed}
-use Rattle.model.specs.Proof.Rows.{controller-fit, ruleAt}
+use Rattle.model.specs.Proof.Parts.{controller-fit}
+use Rattle.model.specs.Tables.{ruleAt}
 use Rattle.model.specs.Proof.RoundTrip.{image-most}
 use Rattle.model.specs.Proof.Demand3.{state-back, state-well}
 use Rattle.model.specs.Proof.Tests.{and-true, equal, no-way}
 use Rattle.octets.specs.Parts.{part, placeAt, writeAt, length-part, length-writeAt, write-left, write-right, write-split}
 use Rattle.table.specs.Slots.{InUse, NextUsed, tableAt}
-use Rattle.table.specs.Laws.{in-use-entries, length-table, next-entries, slot-room}
+use Rattle.table.specs.Laws.{length-table, slot-room}
+use Rattle.table.specs.Walk.{in-use-entries, next-entries}
 use Rattle.layout.specs.Places.{Ready, controllerOf, placeOf, presentAt, tablePlace}
 use Rattle.layout.specs.Reads.{absent-slot, name-at, present-slot}
 use Rattle.layout.specs.Change.{controller-fine}

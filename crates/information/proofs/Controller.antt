@@ -1,26 +1,24 @@
 -- Controller information: from what its steps leave to what the model says of it, over plain values.
 -- Assumes nothing.
-use mathlib.Core.Path.{_≡_, refl, ap, sym, _∙_}
-use Prim.Native.Nat.{ℕ, zero, suc, _+_, _-_, _*_, _≤_, _<_}
+use mathlib.Core.Path.{_≡_, refl, sym, _∙_}
+use Prim.Native.Nat.{ℕ, _+_, _-_, _≤_, _<_}
 use native.Mathlib.Omega.{arith}
-use mathlib.Core.Bool.{Bool, true, false}
-use mathlib.Core.List.{List, [], _∷_, _++_, append-nil, append-assoc}
-use mathlib.Core.Option.{Option, none, some}
-use lib.ListN.{length, getD, take, drop, length-append}
-use lib.Dec.{eqb, lit≤, lit<}
+use mathlib.Core.Bool.{true, false}
+use mathlib.Core.List.{[], _++_, append-nil, append-assoc}
+use lib.ListN.{length, length-append}
+use lib.Dec.{lit≤, lit<}
 use lib.Seq.{set-getD}
 use borrow.Author.Tests.{eq-eqb, ne-eqb}
 use Rattle.model.specs.declared.Hardware.{Hardware}
 use Rattle.model.specs.declared.Settings.{Settings}
 use Rattle.model.specs.Octets.{Octets, le16, le32, commandComplete, commandStatus}
 use Rattle.model.specs.State.{Controller, currentSettings, settingsOf, tableOf, withController, withHost}
-use Rattle.model.specs.Reasons.{statusOf}
-use Rattle.model.specs.Rules.{Immediate, done}
+use Rattle.model.specs.Rules.{done}
 use Rattle.model.specs.Immediate.{sized, classOf, readInformation}
-use Rattle.model.specs.Tables.{entries, tableRules, uuidRule, uuids}
+use Rattle.model.specs.Tables.{entries, tableRules, uuidRule}
 use Rattle.model.specs.Layout.{encode, decode}
 use Rattle.model.specs.Proof.Demand3.{state-back}
-use Rattle.model.specs.Proof.Rows.{ruleAt}
+use Rattle.model.specs.Tables.{ruleAt}
 use Rattle.octets.specs.Parts.{part, length-part, write-whole, writeAt}
 use Rattle.table.specs.Slots.{joinedByOr, tableAt}
 use Rattle.layout.specs.Places.{Ready, controllerOf, placeOf, putController, tablePlace}

@@ -1,21 +1,20 @@
 -- The general commands: from what their steps leave to what the model says of them, over plain values.
 -- Assumes nothing.
-use mathlib.Core.Path.{_≡_, refl, ap, sym, _∙_}
-use Prim.Native.Nat.{ℕ, zero, suc, _+_, _-_, _*_, _/_, _≤_, _<_}
+use mathlib.Core.Path.{_≡_, refl, sym, _∙_}
+use Prim.Native.Nat.{ℕ, suc, _+_, _-_, _/_, _≤_, _<_}
 use native.Mathlib.Omega.{arith}
 use mathlib.Core.Bool.{Bool, true, false}
 use mathlib.Core.List.{List, [], _∷_, _++_, append-nil, append-assoc}
 use mathlib.Core.Option.{Option, none, some}
 use lib.ListN.{length, getD, take, drop, length-append, length-take}
-use lib.Dec.{eqb}
 use lib.Seq.{take-at}
 use borrow.Author.Tests.{eq-eqb, ne-eqb}
 use Rattle.model.specs.Octets.{Octets, le16, commandComplete, commandStatus}
 use Rattle.model.specs.State.{Controller, PlainHub}
 use Rattle.model.specs.Reasons.{statusOf, lengthWrong, indexNotNone}
 use Rattle.model.specs.Commands.{readVersion, readCommands, readIndexes, words, commandCodes, eventCodes, presentFrom}
-use Rattle.model.specs.Hub.{Outcome, finished, refused, byStatus, generalOut}
-use Rattle.model.specs.Layout.{encode, decode, controllersIn}
+use Rattle.model.specs.Hub.{finished, refused, byStatus, generalOut}
+use Rattle.model.specs.Layout.{decode, controllersIn}
 use Rattle.model.specs.Meanings.{stateOk}
 use Rattle.model.specs.Proof.Demand3.{state-back}
 use Rattle.octets.specs.Parts.{writeAt, write-split, write-right, write-front}
@@ -24,7 +23,7 @@ use Rattle.layout.specs.Reads.{present-slot, absent-slot}
 use Rattle.replies.specs.Answers.{Gives}
 use Rattle.replies.specs.declared.Answer.{Answer}
 use Rattle.replies.specs.declared.Answer.the-variants.{Done, Refused}
-use Rattle.outcomes.specs.Outcomes.{ended, general}
+use Rattle.outcomes.specs.Outcomes.{general}
 use Rattle.outcomes.specs.Endings.{ends-refused, ends-done, length-complete}
 use Rattle.replies.proofs.Laws.{length-le16}
 use Rattle.information.specs.General.{Reply, listed}

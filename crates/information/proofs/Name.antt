@@ -1,18 +1,18 @@
 -- Set Local Name: from what its steps leave to what the model says of it, over plain values.
 -- Assumes nothing.
-use mathlib.Core.Path.{_≡_, refl, ap, sym, _∙_}
-use Prim.Native.Nat.{ℕ, zero, suc, _+_, _-_, _*_, _≤_, _<_}
+use mathlib.Core.Path.{_≡_, refl, sym, _∙_}
+use Prim.Native.Nat.{ℕ, _+_, _-_, _≤_, _<_}
 use native.Mathlib.Omega.{arith}
-use mathlib.Core.Bool.{Bool, true, false, not}
-use mathlib.Core.List.{List, [], _∷_, _++_, append-nil}
+use mathlib.Core.Bool.{Bool, true, false}
+use mathlib.Core.List.{[], _++_, append-nil}
 use lib.ListN.{length, getD, take, drop, length-append}
-use lib.Dec.{eqb, lit≤}
+use lib.Dec.{lit≤}
 use lib.Seq.{take-all}
 use borrow.Author.Tests.{eq-eqb, ne-eqb}
 use Rattle.model.specs.Octets.{Octets, octet, same, event, commandComplete, commandStatus}
 use Rattle.model.specs.State.{Controller, nameEnds, shortNameEnds, withHost, withName}
-use Rattle.model.specs.Reasons.{_⇒_, firstOf, statusOf, nameNotEnded, shortNameNotEnded}
-use Rattle.model.specs.Rules.{Immediate, refuse, done}
+use Rattle.model.specs.Reasons.{firstOf, statusOf, nameNotEnded, shortNameNotEnded}
+use Rattle.model.specs.Rules.{refuse, done}
 use Rattle.model.specs.Immediate.{unless, sized, setLocalName}
 use Rattle.model.specs.Layout.{encode, decode}
 use Rattle.octets.specs.Parts.{part, placeAt, writeAt}

@@ -1,15 +1,13 @@
 // The commands that tell of the hub and of a controller: version, commands, indexes, controller information; and the name, which is set here.
 ghost use mathlib.Core.Path.{_≡_};
 ghost use mathlib.Core.Bool.{true};
-ghost use Prim.Native.Nat.{_+_, _≤_, _<_};
+ghost use Prim.Native.Nat.{_+_, _≤_};
 ghost use lib.ListN.{length};
 ghost use Rattle.model.specs.Commands.{readVersion, readCommands, readIndexes, words};
 ghost use Rattle.model.specs.Layout.{decode};
 ghost use Rattle.model.specs.Meanings.{stateOk};
 ghost use Rattle.octets.specs.Parts.{writeAt};
 ghost use Rattle.replies.specs.Answers.{Gives};
-ghost use Rattle.replies.specs.declared.Answer.the-variants.{Refused};
-ghost use Rattle.model.specs.Octets.{commandStatus};
 ghost use Rattle.outcomes.specs.Outcomes.{general};
 ghost use Rattle.information.specs.General.{Reply, listed};
 ghost use Rattle.information.specs.Controller.{informationHead, informationOf};
@@ -95,11 +93,9 @@ fn general_reply(index: u64, code: u64, ps: &[u8], body: &[u8], reply: &mut [u8]
             replies::command_complete(reply, 0, index, code, 0, body);
             return Answer::Done(9 + body.len());
         }
-        replies::command_status(reply, 0, index, code, 0x0D);
-        return Answer::Refused(9);
+        return replies::refuse(reply, index, code, 0x0D);
     }
-    replies::command_status(reply, 0, index, code, 0x11);
-    Answer::Refused(9)
+    replies::refuse(reply, index, code, 0x11)
 }
 
 // 0x0001 Read Version: version 1, revision 10.
@@ -155,28 +151,19 @@ pub fn read_indexes(state: &[u8], index: u64, ps: &[u8], reply: &mut [u8]) -> An
     general_reply(index, 0x0003, ps, &body[..n], reply)
 }
 
-// Refuses Set Local Name: Invalid Parameters.
-fn refuse_name(reply: &mut [u8], index: u64) -> Answer
-    requires { ⌜ 1024 ≤ length (now reply) ⌝ }
-    ensures { λ r. ⌜ (r ≡ Refused 9) × (now (reply .exit) ≡ writeAt (now (reply .entry)) 0 (commandStatus index 15 0x0D)) ⌝ }
-{
-    replies::command_status(reply, 0, index, 0x000F, 0x0D);
-    Answer::Refused(9)
-}
-
 // 0x000F Set Local Name: name and short name, each with a zero at its end. Local Name Changed only if an octet changed.
 pub fn set_local_name(state: &mut [u8], index: u64, ps: &[u8], reply: &mut [u8]) -> Answer
     requires { ⌜ Ready (now state) index × (1024 ≤ length (now reply)) ⌝ }
     ensures { λ r. ⌜ Gives (served (now (state .entry)) index 15 (now (ps .entry)) setLocalName) r (now (reply .entry)) (now (reply .exit)) (now (state .exit)) ⌝ }
 {
     if ps.len() != 260 {
-        return refuse_name(reply, index);
+        return replies::refuse(reply, index, 0x000F, 0x0D);
     }
     if ps[248] != 0 {
-        return refuse_name(reply, index);
+        return replies::refuse(reply, index, 0x000F, 0x0D);
     }
     if ps[259] != 0 {
-        return refuse_name(reply, index);
+        return replies::refuse(reply, index, 0x000F, 0x0D);
     }
     let place = layout::name_place(index);
     let kept = octets::same_part(ps, 0, state, place, 260);
@@ -237,8 +224,7 @@ pub fn read_information(state: &[u8], index: u64, ps: &[u8], reply: &mut [u8]) -
     ensures { λ r. ⌜ Gives (served (now (state .entry)) index 4 (now (ps .entry)) readInformation) r (now (reply .entry)) (now (reply .exit)) (now (state .entry)) ⌝ }
 {
     if ps.len() != 0 {
-        replies::command_status(reply, 0, index, 0x0004, 0x0D);
-        return Answer::Refused(9);
+        return replies::refuse(reply, index, 0x0004, 0x0D);
     }
     let mut body: [u8; 280] = [0; 280];
     put_information(state, index, &mut body);

@@ -16,7 +16,8 @@ use Rattle.model.specs.Tables.{chop, loaded, tableRules, leAddressChecks, linkK
 use Rattle.model.specs.Rules.{refuse, done}
 use Rattle.model.specs.Immediate.{KeyList, listChecks, loadKeys, unless, linkKeyList, longTermKeyList, identityKeyList}
 use Rattle.model.specs.Layout.{decode, encode, region}
-use Rattle.model.specs.Proof.Rows.{ruleAt, length-chop}
+use Rattle.model.specs.Proof.Tables.{length-chop}
+use Rattle.model.specs.Tables.{ruleAt}
 use Rattle.model.specs.Proof.Tests.{equal}
 use Rattle.octets.specs.Parts.{part, writeAt}
 use Rattle.table.specs.Slots.{length-loaded, sized-loaded}

@@ -1,26 +1,25 @@
 -- Unpair: from what its steps leave to what the model says, over plain values.
-use Prim.Native.Nat.{ℕ, zero, suc, _≤_, _<_}
+use Prim.Native.Nat.{ℕ, _≤_, _<_}
 use native.Mathlib.Omega.{arith}
 use mathlib.Core.Path.{_≡_, refl, sym, _∙_}
 use mathlib.Core.Bool.{Bool, true, false, not}
-use mathlib.Core.List.{List, [], _∷_, _++_}
+use mathlib.Core.List.{[], _∷_, _++_}
 use lib.ListN.{length, getD, take, set, length-append}
 use lib.Seq.{getD-set-other, set-set, length-take-le}
 use lib.Dec.{ltb}
 use borrow.Author.Tests.{eq-eqb, ne-eqb, lt-ltb, le-ltb}
-use Rattle.model.specs.declared.Hardware.{Hardware}
 use Rattle.model.specs.declared.Settings.{Settings}
 use Rattle.model.specs.Octets.{Octets, octet, event, commandComplete, commandStatus}
 use Rattle.model.specs.State.{Controller, Host, Hub, Table, settingsOf, tableOf, withController, withHost, withTable}
 use Rattle.model.specs.Reasons.{Reason, _⇒_, firstOf, statusOf, addressTypeAbove2, disconnectAbove1, unpowered, notPaired}
-use Rattle.model.specs.Tables.{TableRule, begins, freed, holds, tableRules, uuidRule}
+use Rattle.model.specs.Tables.{begins, freed, holds}
 use Rattle.model.specs.Rules.{refuse, done}
 use Rattle.model.specs.Immediate.{unless, sized, anyKey, unpaired, unpairDevice}
-use Rattle.model.specs.WellFormed.{controllerOk, tableOk, tablesOk, timerOk, widthsOk}
+use Rattle.model.specs.WellFormed.{controllerOk}
 use Rattle.model.specs.Layout.{decode, encode, region}
-use Rattle.model.specs.Proof.Rows.{ruleAt, controller-fit, fit-controller}
+use Rattle.model.specs.Proof.Parts.{table-changed}
+use Rattle.model.specs.Tables.{ruleAt}
 use Rattle.model.specs.Proof.Tables.{freed-ok}
-use Rattle.model.specs.Proof.Tests.{and-true, both, no-way}
 use Rattle.octets.specs.Parts.{part, writeAt}
 use Rattle.table.specs.Slots.{Canonical, firstAt, tableAt, holds-first, length-freed, sized-freed}
 use Rattle.layout.specs.Places.{Ready, controllerOf, putController, tablePlace}
@@ -37,29 +36,6 @@ use Rattle.outcomes.specs.Endings.{served-length, served-address, served-done, 
 use Rattle.keys.specs.Forget.{forgotten, Forgets}
 
 -- 1. One table ----------------------------------------------------------------------------------------------------------------------------------------
-
--- another valid table among the tables
-tables-set : (f : Hardware) (us : List TableRule) (ts : List Table) (k : ℕ) (t : Table) → tablesOk f us ts ≡ true → tableOk (getD us k uuidRule) f t ≡ true → tablesOk f us (set ts k t) ≡ true
-unfolding tablesOk
-tables-set f [] [] k t e n = refl
-tables-set f [] (s ∷ ts) k t e n = no-way (sym e)
-tables-set f (u ∷ us) [] k t e n = no-way (sym e)
-tables-set f (u ∷ us) (s ∷ ts) zero t e n = both n (and-true (tableOk u f s) _ e .1)
-tables-set f (u ∷ us) (s ∷ ts) (suc k) t e n = let h = and-true (tableOk u f s) _ e in both (h .0) (tables-set f us ts k t (h .1) n)
-
--- a controller with another valid table is valid
-table-changed : (c : Controller) (k : ℕ) (t : Table) → controllerOk c ≡ true → tableOk (ruleAt k) (c .radio .hardware) t ≡ true → controllerOk (withHost c (withTable (c .host) k t)) ≡ true
-unfolding withHost withTable ruleAt timerOk widthsOk
-table-changed c k t e n =
-    let h = controller-fit c e in
-    fit-controller (withHost c (withTable (c .host) k t)) (record {
-      radio = h .radio;
-      staticAddress = h .staticAddress;
-      name = h .name;
-      timer = h .timer;
-      widths = h .widths;
-      tables = tables-set (c .radio .hardware) tableRules (c .host .tables) k t (h .tables) n;
-    })
 
 module _ (s : Octets) (i k : ℕ) (ps : Octets) (place size : ℕ) (g : Ready s i) (l : k < 6) (ep : place ≡ tablePlace i k) (ez : size ≡ ruleAt k .size) where
   abbrev table : Table
@@ -137,11 +113,6 @@ three-gone s i ps a b t x y z =
     z .state ∙ rw (e, h, put-twice, forgotten-three ps c)
 
 -- 3. The reply ------------------------------------------------------------------------------------------------------------------------------------------
-
--- the address and type
-pub first-seven : (ps : Octets) → part ps 0 7 ≡ take 7 ps
-unfolding part
-first-seven ps = refl
 
 -- Command Complete, then Device Unpaired
 pub unpaired-reply : (d : Octets) (i : ℕ) (ps b e : Octets) → 7 ≤ length ps → b ≡ writeAt d 0 (commandComplete i 0x001B 0 (part ps 0 7)) → e ≡ writeAt b 16 (event 0x0016 i (part ps 0 7))

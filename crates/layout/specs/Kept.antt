@@ -16,6 +16,7 @@ use Rattle.model.specs.WellFormed.{controllerOk, openOk, opensOk, plainOk, slot
 use Rattle.model.specs.Layout.{decode, encode}
 use Rattle.model.specs.Proof.Decode.{decode-encode}
 use Rattle.model.specs.Proof.Demand3.{encode-ok, state-well}
+use Rattle.model.specs.Proof.Keeps.{opens-at}
 use Rattle.model.specs.Proof.Stays.{fit-plain, plain-fit, slots-set}
 use Rattle.model.specs.Proof.Tables.{lt-true}
 use Rattle.model.specs.Proof.Tests.{and-true, both, no-way}
@@ -129,15 +130,6 @@ pub same-radio : (c d : Controller) (o : Option OpenCommand) → c .radio ≡ d 
 unfolding openOk
 same-radio c d none e = refl
 same-radio c d (some o) e = rw e
-
--- what well formed says of the open command at a place
-opens-at : (ss : List (Option Controller)) (os : List (Option OpenCommand)) (i : ℕ) → opensOk ss os ≡ true → openOk (getD ss i none) (getD os i none) ≡ true
-unfolding opensOk openOk
-opens-at [] [] i e = refl
-opens-at [] (o ∷ os) i e = no-way (sym e)
-opens-at (s ∷ ss) [] i e = no-way (sym e)
-opens-at (s ∷ ss) (o ∷ os) zero e = and-true (openOk s o) _ e .0
-opens-at (s ∷ ss) (o ∷ os) (suc i) e = opens-at ss os i (and-true (openOk s o) _ e .1)
 
 module _ (s : Octets) (i : ℕ) (r : Ready s i) where
   -- the hub is well formed

@@ -18,7 +18,7 @@ use Rattle.model.specs.WellFormed.{controllerOk, openOk, opensOk, plainOk, slot
 use Rattle.model.specs.Layout.{block, blocks, controllerPart, encode, hardwarePart, openPart, region, regions, settingsPart}
 use Rattle.model.specs.Proof.Decode.{length-region}
 use Rattle.model.specs.Proof.Layout.{length-block, length-open}
-use Rattle.model.specs.Proof.Rows.{controller-fit}
+use Rattle.model.specs.Proof.Parts.{controller-fit}
 use Rattle.model.specs.Proof.Stays.{plain-fit}
 use Rattle.model.specs.Proof.Tests.{and-true, equal, no-way}
 use Rattle.octets.specs.Parts.{join, join-read, join-write, length-writeAt, lengths, part, part-right, placeAt, write-right, writeAt, write-whole}

@@ -11,16 +11,17 @@ use lib.Seq.{drop-drop, take-take}
 use lib.Dec.{eqb}
 use Rattle.model.specs.declared.Hardware.{Hardware}
 use Rattle.model.specs.Octets.{Octets, le32, u16, u32}
-use Rattle.model.specs.State.{Controller, Table, settingsOf, tableOf, withHost, withTable}
+use Rattle.model.specs.State.{Table, settingsOf, tableOf, withHost, withTable}
 use Rattle.model.specs.Reasons.{passes}
 use Rattle.model.specs.Tables.{TableRule, blockedRule, chop, deviceRule, entries, every, identityKeyRule, linkKeyRule, longTermKeyRule, recordOk, tableRules, uuidRule}
-use Rattle.model.specs.WellFormed.{controllerOk, tableOk, tablesOk, timerOk, widthsOk}
+use Rattle.model.specs.WellFormed.{tableOk, tablesOk}
 use Rattle.model.specs.Layout.{decode, encode, region, slotOctets, slots, tableBack}
 use Rattle.model.specs.Proof.Decode.{table-back}
 use Rattle.model.specs.Proof.Region.{Sized}
-use Rattle.model.specs.Proof.Rows.{controller-fit, fit-controller, ruleAt, table-ok}
+use Rattle.model.specs.Proof.Parts.{controller-fit, table-changed, table-ok}
+use Rattle.model.specs.Tables.{ruleAt}
 use Rattle.model.specs.Proof.Tables.{table-fit}
-use Rattle.model.specs.Proof.Tests.{and-true, both, equal, no-way}
+use Rattle.model.specs.Proof.Tests.{and-true, equal, no-way}
 use Rattle.octets.specs.Parts.{drop-take, getD-part, part, placeAt, writeAt}
 use Rattle.layout.specs.Places.{Ready, controllerOf, openAt, placeOf, putController, sizes, tablePlace}
 use Rattle.table.specs.Slots.{tableAt}
@@ -141,32 +142,7 @@ sized-region size t n z =
     let e : length (slots size t) ≡ size * 32 = sized-slots size t z ∙ rw n in
     omega arith
 
--- 3. A table changed ---------------------------------------------------------------------------------------------------------------------------
-
--- a valid table in the place of another
-tables-set : (f : Hardware) (us : List TableRule) (ts : List Table) (k : ℕ) (t : Table) → tablesOk f us ts ≡ true → tableOk (getD us k uuidRule) f t ≡ true → tablesOk f us (set ts k t) ≡ true
-unfolding tablesOk
-tables-set f [] [] k t e n = refl
-tables-set f [] (x ∷ ts) k t e n = no-way (sym e)
-tables-set f (u ∷ us) [] k t e n = no-way (sym e)
-tables-set f (u ∷ us) (x ∷ ts) zero t e n = both n (and-true (tableOk u f x) _ e .1)
-tables-set f (u ∷ us) (x ∷ ts) (suc k) t e n = let a = and-true (tableOk u f x) _ e in both (a .0) (tables-set f us ts k t (a .1) n)
-
--- keeps a controller valid
-pub table-kept : (c : Controller) (k : ℕ) (t : Table) → controllerOk c ≡ true → tableOk (ruleAt k) (c .radio .hardware) t ≡ true → controllerOk (withHost c (withTable (c .host) k t)) ≡ true
-unfolding withHost withTable ruleAt timerOk widthsOk
-table-kept c k t e n =
-    let h = controller-fit c e in
-    fit-controller (withHost c (withTable (c .host) k t)) (record {
-      radio = h .radio;
-      staticAddress = h .staticAddress;
-      name = h .name;
-      timer = h .timer;
-      widths = h .widths;
-      tables = tables-set (c .radio .hardware) tableRules (c .host .tables) k t (h .tables) n;
-    })
-
--- 4. The tables of a present controller ---------------------------------------------------------------------------------------------------------
+-- 3. The tables of a present controller ---------------------------------------------------------------------------------------------------------
 
 module _ (s : Octets) (i : ℕ) (r : Ready s i) (k : ℕ) (l : k < 6) where
   -- all six are valid
@@ -229,10 +205,10 @@ module _ (s : Octets) (i : ℕ) (r : Ready s i) (k : ℕ) (l : k < 6) where
     pub table-ready : Ready (encode (putController (decode s) i (withHost (controllerOf s i) (withTable (controllerOf s i .host) k t)))) i
     table-ready =
         let h = withTable (controllerOf s i .host) k t in
-        controller-ready s i r (withHost (controllerOf s i) h) (table-kept (controllerOf s i) k t (controller-fine s i r) n) (host-fine s i r h)
+        controller-ready s i r (withHost (controllerOf s i) h) (table-changed (controllerOf s i) k t (controller-fine s i r) n) (host-fine s i r h)
 
     -- with the new table
     pub table-now : controllerOf (encode (putController (decode s) i (withHost (controllerOf s i) (withTable (controllerOf s i .host) k t)))) i ≡ withHost (controllerOf s i) (withTable (controllerOf s i .host) k t)
     table-now =
         let h = withTable (controllerOf s i .host) k t in
-        controller-back s i r (withHost (controllerOf s i) h) (table-kept (controllerOf s i) k t (controller-fine s i r) n) (host-fine s i r h)
+        controller-back s i r (withHost (controllerOf s i) h) (table-changed (controllerOf s i) k t (controller-fine s i r) n) (host-fine s i r h)

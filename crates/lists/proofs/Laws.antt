@@ -10,7 +10,7 @@ use Rattle.model.specs.Octets.{Octets}
 use Rattle.model.specs.Reasons.{passes}
 use Rattle.model.specs.Tables.{TableRule, chop, distinct}
 use Rattle.model.specs.Immediate.{recordChecks}
-use Rattle.model.specs.Proof.Rows.{ruleAt}
+use Rattle.model.specs.Tables.{ruleAt}
 use Rattle.octets.specs.Parts.{part}
 use Rattle.records.specs.Slots.{recordsAt, list-records}
 use Rattle.records.proofs.Laws.{passes-append, passes-cons, passes-none, room}

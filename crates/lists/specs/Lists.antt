@@ -6,7 +6,7 @@ use Rattle.model.specs.Octets.{Octets}
 use Rattle.model.specs.Reasons.{Check, _⇒_, passes, recordRepeated}
 use Rattle.model.specs.Tables.{TableRule, distinct}
 use Rattle.model.specs.Immediate.{recordChecks}
-use Rattle.model.specs.Proof.Rows.{ruleAt}
+use Rattle.model.specs.Tables.{ruleAt}
 use Rattle.octets.specs.Parts.{part}
 use Rattle.lists.specs.declared.Key.{Key}
 

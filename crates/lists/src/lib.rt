@@ -7,7 +7,7 @@ ghost use lib.ListN.{length, drop};
 ghost use Rattle.model.specs.Reasons.{passes};
 ghost use Rattle.model.specs.Tables.{chop};
 ghost use Rattle.model.specs.Immediate.{recordChecks};
-ghost use Rattle.model.specs.Proof.Rows.{ruleAt};
+ghost use Rattle.model.specs.Tables.{ruleAt};
 ghost use Rattle.lists.specs.Lists.{keyAt, valueChecks};
 
 // A place in a list: the caller's packet, and where the next record begins.

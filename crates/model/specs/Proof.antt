@@ -4,6 +4,7 @@ pub mod EveryRow
 pub mod Invariant
 pub mod Commute
 pub mod Tables
+pub mod Parts
 pub mod Rows
 pub mod Stays
 pub mod Load

@@ -3,7 +3,7 @@ use Prim.Native.Nat.{ℕ, zero, suc, _+_, _-_}
 use mathlib.Core.Bool.{Bool, true, false, _&&_, _||_, not}
 use mathlib.Core.List.{List, [], _∷_, _++_, map}
 use mathlib.Core.Option.{none, some}
-use lib.ListN.{length, take, drop, replicate}
+use lib.ListN.{length, getD, take, drop, replicate}
 use lib.Dec.{eqb, ltb}
 use Rattle.model.specs.Octets.{Octets, octet, same, allZero}
 use Rattle.model.specs.State.{Table, Hardware, bredrSupported, leSupported, staticRandom}
@@ -209,8 +209,12 @@ deviceRule = record {
 unfoldable pub tableRules : List TableRule
 tableRules = uuidRule ∷ linkKeyRule ∷ longTermKeyRule ∷ identityKeyRule ∷ blockedRule ∷ deviceRule ∷ []
 
+-- the rule of the table at a place, 0 to 5
+unfoldable pub ruleAt : ℕ → TableRule
+ruleAt k = getD tableRules k uuidRule
+
 -- Named on an `unfolding` line, this opens every definition of the module: for examples that are computed.
 unfoldable pub open-tables : Unit {0}
 unfolding entries any every holds distinct freed replaced added full stored loaded chop begins empty recordOk recordsOk supportOk needsNothing needsBredr needsLe uuidRule
-    linkKeyRule leAddressChecks longTermKeyRule identityKeyRule blockedRule deviceRule tableRules
+    linkKeyRule leAddressChecks longTermKeyRule identityKeyRule blockedRule deviceRule tableRules ruleAt
 open-tables = tt

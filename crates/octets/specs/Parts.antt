@@ -21,6 +21,11 @@ pub length-writeAt : (d : Octets) (at : ℕ) (w : Octets) → length (writeAt d 
 unfolding writeAt
 length-writeAt d at w = length-sets d at w
 
+-- the first octets
+pub part-first : (s : Octets) (n : ℕ) → part s 0 n ≡ take n s
+unfolding part
+part-first s n = refl
+
 -- a part that fits is as long as it says
 pub length-part : (s : Octets) (at n : ℕ) → at + n ≤ length s → length (part s at n) ≡ n
 unfolding part

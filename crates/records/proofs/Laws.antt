@@ -16,7 +16,7 @@ use Rattle.model.specs.declared.Hardware.{Hardware}
 use Rattle.model.specs.State.{bredrSupported, leSupported, staticRandom}
 use Rattle.model.specs.Reasons.{Check, firstOf, nothing, passes}
 use Rattle.model.specs.Tables.{TableRule, any, blockedRule, deviceRule, distinct, every, identityKeyRule, leAddressChecks, linkKeyRule, longTermKeyRule, needsBredr, needsLe, needsNothing, recordOk, tableRules, uuidRule}
-use Rattle.model.specs.Proof.Rows.{ruleAt}
+use Rattle.model.specs.Tables.{ruleAt}
 use Rattle.octets.specs.Parts.{part, length-part, getD-part}
 use Rattle.model.specs.Proof.Tables.{same-eq}
 use Rattle.model.specs.Proof.Tests.{and-true}

@@ -13,7 +13,7 @@ use lib.Pow.{shl-exact, shl-shr}
 use borrow.Author.Tests.{eq-eqb, eqb-true}
 use Rattle.model.specs.Octets.{Octets, octet, same}
 use Rattle.model.specs.Tables.{any, blockedRule, deviceRule, every, identityKeyRule, linkKeyRule, longTermKeyRule, tableRules, uuidRule}
-use Rattle.model.specs.Proof.Rows.{ruleAt}
+use Rattle.model.specs.Tables.{ruleAt}
 use Rattle.model.specs.Proof.Tables.{same-eq}
 use Rattle.model.specs.Proof.Tests.{and-true, both}
 

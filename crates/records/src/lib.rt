@@ -10,7 +10,7 @@ ghost use Rattle.model.specs.declared.Hardware.{Hardware};
 ghost use Rattle.model.specs.Octets.{same};
 ghost use Rattle.model.specs.Reasons.{passes};
 ghost use Rattle.model.specs.Tables as T;
-ghost use Rattle.model.specs.Proof.Rows.{ruleAt};
+ghost use Rattle.model.specs.Tables.{ruleAt};
 ghost use Rattle.octets.specs.Parts.{part};
 ghost use Rattle.records.specs.Slots.{recordsAt};
 ghost use Rattle.records.specs.Marks.{markOf, marked};

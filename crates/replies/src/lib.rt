@@ -1,12 +1,13 @@
 // Replies and events, each written at a place of the reply buffer; and what a call answers.
 ghost use mathlib.Core.Path.{_≡_};
 ghost use Prim.Native.Nat.{_+_, _≤_};
-ghost use lib.ListN.{length};
+ghost use lib.ListN.{length, take};
 ghost use Rattle.model.specs.Octets.{le32, commandComplete, commandStatus};
 ghost use Rattle.model.specs.Octets as M;
 ghost use Rattle.octets.specs.Parts.{part, writeAt};
 ghost use Rattle.replies.specs.Frames as S;
 ghost use Rattle.replies.specs.Answers.{numberOf, countOf};
+ghost use Rattle.replies.specs.declared.Answer.the-variants.{Refused};
 
 // What a call answers; a count is that of the octets written.
 pub enum Answer {
@@ -156,4 +157,22 @@ pub fn settings_reply(out: &mut [u8], index: u64, code: u64, old: u64, new: u64)
     }
     new_settings(out, 13, index, new);
     23
+}
+
+// A command is refused by Command Status.
+pub fn refuse(reply: &mut [u8], index: u64, code: u64, status: u8) -> Answer
+    requires { ⌜ 9 ≤ length (now reply) ⌝ }
+    ensures { λ r. ⌜ (r ≡ Refused 9) × (now (reply .exit) ≡ writeAt (now (reply .entry)) 0 (commandStatus index code status)) ⌝ }
+{
+    command_status(reply, 0, index, code, status);
+    Answer::Refused(9)
+}
+
+// An address command is refused by Command Complete with the received address and type, the first seven octets of its parameters.
+pub fn refuse_address(reply: &mut [u8], index: u64, code: u64, status: u8, ps: &[u8]) -> Answer
+    requires { ⌜ (16 ≤ length (now reply)) × (7 ≤ length (now ps)) ⌝ }
+    ensures { λ r. ⌜ (r ≡ Refused 16) × (now (reply .exit) ≡ writeAt (now (reply .entry)) 0 (commandComplete index code status (take 7 (now (ps .entry))))) ⌝ }
+{
+    command_complete_part(reply, 0, index, code, status, ps, 0, 7);
+    Answer::Refused(16)
 }

@@ -17,7 +17,7 @@ use Rattle.model.specs.State.{Controller, Table, flag, nameEnds, noTimer, short
 use Rattle.model.specs.Reasons.{passes}
 use Rattle.model.specs.Tables.{TableRule, chop, empty, loaded, recordsOk, supportOk, tableRules, uuidRule, linkKeyRule, longTermKeyRule, identityKeyRule, blockedRule, deviceRule}
 use Rattle.model.specs.Image.{Parsed, controllerThen, flagsOk, nameOk, parseController, parseRadio, parseTables, radioOk, tableThen}
-use Rattle.model.specs.Proof.Rows.{ruleAt}
+use Rattle.model.specs.Tables.{ruleAt}
 use Rattle.records.specs.Slots.{recordsAt, list-records}
 use Rattle.octets.specs.Parts.{part, getD-part}
 use Rattle.restore.specs.Filling.{found, rule-next}

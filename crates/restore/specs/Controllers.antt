@@ -21,7 +21,7 @@ use Rattle.model.specs.Layout.{decode, encode}
 use Rattle.model.specs.Meanings.{stateOk}
 use Rattle.model.specs.Proof.Demand3.{state-well}
 use Rattle.model.specs.Proof.Load.{controller-load, le-of, tested, then}
-use Rattle.model.specs.Proof.Rows.{controller-fit, fit-controller, fit-widths, widths-fit}
+use Rattle.model.specs.Proof.Parts.{controller-fit, fit-controller, fit-widths, widths-fit}
 use Rattle.model.specs.Proof.Tables.{bytes-drop}
 use Rattle.model.specs.Proof.Tests.{and-true, both, equal, no-way}
 use Rattle.octets.specs.Parts.{part}

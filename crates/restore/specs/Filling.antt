@@ -19,7 +19,8 @@ use Rattle.model.specs.Layout.{decode, encode, region}
 use Rattle.model.specs.Proof.Decode.{decode-encode}
 use Rattle.model.specs.Proof.Demand3.{state-back, state-well}
 use Rattle.model.specs.Proof.Load.{le-of, tested, then}
-use Rattle.model.specs.Proof.Rows.{length-chop, ruleAt}
+use Rattle.model.specs.Proof.Tables.{length-chop}
+use Rattle.model.specs.Tables.{ruleAt}
 use Rattle.model.specs.Proof.Tables.{bytes-chop, bytes-drop, loaded-ok, lt-true}
 use Rattle.model.specs.Proof.Tests.{and-true, both, no-way}
 use Rattle.octets.specs.Parts.{writeAt}
@@ -28,7 +29,8 @@ use Rattle.layout.specs.Reads.{present-slot}
 use Rattle.layout.specs.Change.{controller-fine}
 use Rattle.layout.specs.Lens.{shaped}
 use Rattle.layout.specs.Kept.{encode-controller, encode-open, encode-ready, put-well, same-slot}
-use Rattle.layout.specs.Tables.{table-kept, table-written}
+use Rattle.layout.specs.Tables.{table-written}
+use Rattle.model.specs.Proof.Parts.{table-changed}
 
 -- 1. What a reader found ------------------------------------------------------------------------------------------------------------------------
 
@@ -111,7 +113,7 @@ module _ (h : Hub) (i : ℕ) (s : Octets) (c : Controller) (x : Holds h i s c) w
       → Holds h i t (withHost c (withTable (c .host) k v))
   held-table k t v l n e =
       let w = table-written s i held-ready k l v (rw held-controller n) in
-      held-put t (withHost c (withTable (c .host) k v)) (table-kept c k v (x .fine) n) (e ∙ (rw held-controller at w))
+      held-put t (withHost c (withTable (c .host) k v)) (table-changed c k v (x .fine) n) (e ∙ (rw held-controller at w))
 
 -- 3. One table of an image ---------------------------------------------------------------------------------------------------------------------------
 

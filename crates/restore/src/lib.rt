@@ -8,7 +8,7 @@ ghost use lib.ListN.{length, drop, getD};
 ghost use Rattle.model.specs.State.{Controller, PlainHub, Table, idle};
 ghost use Rattle.model.specs.declared.Hardware.{Hardware};
 ghost use Rattle.model.specs.Tables.{TableRule, tableRules};
-ghost use Rattle.model.specs.Proof.Rows.{ruleAt};
+ghost use Rattle.model.specs.Tables.{ruleAt};
 ghost use Rattle.model.specs.Image.{Parsed, parseController, parseTables};
 ghost use Rattle.model.specs.Image as I;
 ghost use Rattle.model.specs.Layout.{decode, encode};

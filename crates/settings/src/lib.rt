@@ -3,7 +3,7 @@ ghost use mathlib.Core.Path.{_≡_};
 ghost use mathlib.Core.Bool.{true};
 ghost use Prim.Native.Nat.{_+_, _<_, _≤_};
 ghost use lib.ListN.{length};
-ghost use Rattle.model.specs.Octets.{commandStatus, u16};
+ghost use Rattle.model.specs.Octets.{u16};
 ghost use Rattle.model.specs.State.{currentSettings};
 ghost use Rattle.model.specs.Rules.{setConnectable, setDiscoverable, setLowEnergy, setPowered, setStaticAddress};
 ghost use Rattle.model.specs.Immediate.{setBondable};
@@ -13,7 +13,7 @@ ghost use Rattle.octets.specs.Parts.{writeAt};
 ghost use Rattle.layout.specs.Places.{Ready, controllerOf, placeOf, putController};
 ghost use Rattle.replies.specs.Answers.{Gives};
 ghost use Rattle.replies.specs.Frames.{settingsReply};
-ghost use Rattle.replies.specs.declared.Answer.the-variants.{Done, Refused};
+ghost use Rattle.replies.specs.declared.Answer.the-variants.{Done};
 ghost use Rattle.rules.specs.declared.Decision.the-variants.{Wait};
 ghost use Rattle.rules.specs.Effects.{withSettings};
 ghost use Rattle.outcomes.specs.Outcomes.{contended, reported, served};
@@ -24,15 +24,6 @@ use replies::Answer;
 use rules::Decision;
 
 // The ways to end
-
-// A command is refused by Command Status.
-fn refuse(reply: &mut [u8], index: u64, code: u64, status: u8) -> Answer
-    requires { ⌜ 9 ≤ length (now reply) ⌝ }
-    ensures { λ r. ⌜ (r ≡ Refused 9) × (now (reply .exit) ≡ writeAt (now (reply .entry)) 0 (commandStatus index code status)) ⌝ }
-{
-    replies::command_status(reply, 0, index, code, status);
-    Answer::Refused(9)
-}
 
 // A command acts: the settings `old` become `new`, and the reply tells them.
 fn apply(
@@ -61,11 +52,11 @@ pub fn set_bondable(state: &mut [u8], index: u64, ps: &[u8], reply: &mut [u8]) -
     ensures { λ r. ⌜ Gives (served (now (state .entry)) index 0x0009 (now (ps .entry)) setBondable) r (now (reply .entry)) (now (reply .exit)) (now (state .exit)) ⌝ }
 {
     if ps.len() != 1 {
-        return refuse(reply, index, 0x0009, 0x0D);
+        return replies::refuse(reply, index, 0x0009, 0x0D);
     }
     let v = ps[0];
     if 1 < v {
-        return refuse(reply, index, 0x0009, 0x0D);
+        return replies::refuse(reply, index, 0x0009, 0x0D);
     }
     let old = layout::settings_at(state, index);
     let new = rules::with_bondable(old, v == 1);
@@ -89,11 +80,11 @@ fn contend(
     ensures { λ r. ⌜ Contends (now (state .entry)) index code (now (ps .entry)) d old new r (now (reply .entry)) (now (reply .exit)) (now (state .exit)) ⌝ }
 {
     if layout::open_code(state, index) != 0 {
-        return refuse(reply, index, code, 0x0A);
+        return replies::refuse(reply, index, code, 0x0A);
     }
     match d {
-        Decision::Refuse(status) => refuse(reply, index, code, status),
-        Decision::Reject(status) => refuse(reply, index, code, status),
+        Decision::Refuse(status) => replies::refuse(reply, index, code, status),
+        Decision::Reject(status) => replies::refuse(reply, index, code, status),
         Decision::Wait => {
             layout::put_open(state, index, code, ps);
             Answer::Started
@@ -117,7 +108,7 @@ fn conclude(
     ensures { λ r. ⌜ Concludes (now (state .entry)) index code (now (ps .entry)) d old new r (now (reply .entry)) (now (reply .exit)) (now (state .exit)) ⌝ }
 {
     match d {
-        Decision::Refuse(status) => refuse(reply, index, code, status),
+        Decision::Refuse(status) => replies::refuse(reply, index, code, status),
         Decision::Reject(_) => contend(state, index, code, ps, reply, d, old, new),
         Decision::Wait => contend(state, index, code, ps, reply, d, old, new),
         Decision::Act => contend(state, index, code, ps, reply, d, old, new),
@@ -130,7 +121,7 @@ pub fn set_powered(state: &mut [u8], index: u64, ps: &[u8], reply: &mut [u8]) ->
     ensures { λ r. ⌜ Gives (contended (now (state .entry)) index 0x0005 (now (ps .entry)) setPowered) r (now (reply .entry)) (now (reply .exit)) (now (state .exit)) ⌝ }
 {
     if ps.len() != 1 {
-        return refuse(reply, index, 0x0005, 0x0D);
+        return replies::refuse(reply, index, 0x0005, 0x0D);
     }
     let old = layout::settings_at(state, index);
     let d = rules::decide_powered(old.radio, ps);
@@ -144,7 +135,7 @@ pub fn set_discoverable(state: &mut [u8], index: u64, ps: &[u8], reply: &mut [u8
     ensures { λ r. ⌜ Gives (contended (now (state .entry)) index 0x0006 (now (ps .entry)) setDiscoverable) r (now (reply .entry)) (now (reply .exit)) (now (state .exit)) ⌝ }
 {
     if ps.len() != 3 {
-        return refuse(reply, index, 0x0006, 0x0D);
+        return replies::refuse(reply, index, 0x0006, 0x0D);
     }
     let old = layout::settings_at(state, index);
     let d = rules::decide_discoverable(old.radio, ps);
@@ -158,7 +149,7 @@ pub fn set_connectable(state: &mut [u8], index: u64, ps: &[u8], reply: &mut [u8]
     ensures { λ r. ⌜ Gives (contended (now (state .entry)) index 0x0007 (now (ps .entry)) setConnectable) r (now (reply .entry)) (now (reply .exit)) (now (state .exit)) ⌝ }
 {
     if ps.len() != 1 {
-        return refuse(reply, index, 0x0007, 0x0D);
+        return replies::refuse(reply, index, 0x0007, 0x0D);
     }
     let old = layout::settings_at(state, index);
     let d = rules::decide_connectable(old.radio, ps);
@@ -172,7 +163,7 @@ pub fn set_low_energy(state: &mut [u8], index: u64, ps: &[u8], reply: &mut [u8])
     ensures { λ r. ⌜ Gives (contended (now (state .entry)) index 0x000D (now (ps .entry)) setLowEnergy) r (now (reply .entry)) (now (reply .exit)) (now (state .exit)) ⌝ }
 {
     if ps.len() != 1 {
-        return refuse(reply, index, 0x000D, 0x0D);
+        return replies::refuse(reply, index, 0x000D, 0x0D);
     }
     let old = layout::settings_at(state, index);
     let d = rules::decide_low_energy(old.radio, ps);
@@ -186,7 +177,7 @@ pub fn set_static_address(state: &mut [u8], index: u64, ps: &[u8], reply: &mut [
     ensures { λ r. ⌜ Gives (contended (now (state .entry)) index 0x002B (now (ps .entry)) setStaticAddress) r (now (reply .entry)) (now (reply .exit)) (now (state .exit)) ⌝ }
 {
     if ps.len() != 6 {
-        return refuse(reply, index, 0x002B, 0x0D);
+        return replies::refuse(reply, index, 0x002B, 0x0D);
     }
     let old = layout::settings_at(state, index);
     let d = rules::decide_static_address(old.radio, ps);

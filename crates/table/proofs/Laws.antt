@@ -21,7 +21,8 @@ use Rattle.model.specs.Layout.{region}
 use Rattle.model.specs.Proof.Region.{Sized, free}
 use Rattle.octets.specs.Parts.{part, writeAt, getD-part, length-writeAt}
 use Rattle.table.specs.Slots.{Canonical, InUse, NextUsed, firstAt, joinedByOr, tableAt, freed-first, freed-none, entries-first, sized-none}
-use Rattle.table.specs.Laws.{free-at, store-changed, release-changed, load-changed, next-some, next-none, next-first, next-entries, in-use-entries, length-table, length-region, canonical-write, sized-at, table-write, write-over, write-part}
+use Rattle.table.specs.Laws.{free-at, store-changed, release-changed, load-changed, length-table, length-region, canonical-write, sized-at, table-write, write-over, write-part}
+use Rattle.table.specs.Walk.{next-some, next-none, next-first, next-entries, in-use-entries}
 
 -- places ------------------------------------------------------------------------------------------------------------------------------------------
 

@@ -2,7 +2,7 @@
 use mathlib.Core.Path.{sym, _∙_}
 use native.Mathlib.Omega.{arith}
 use Rattle.checks.proofs.Laws.{table-empty, table-spoilt, table-told, table-unsupported}
-use Rattle.model.specs.Proof.Rows.{ruleAt}
+use Rattle.model.specs.Tables.{ruleAt}
 use denote.Ref.{now}
 use borrow.Author.Needs.{needs}
 use Rattle.checks.proofs.table_ok.Statement.{statement}

@@ -8,13 +8,13 @@ use lib.ListN.{length, take, drop, getD, set, length-set}
 use Rattle.devices.proofs.Uuids.{add-uuid-length, add-uuid-bad, add-uuid-full, add-uuid-done, size0}
 use Rattle.devices.proofs.Laws.{record-room, fits, canonical}
 use lib.Dec.{lit<}
-use Rattle.model.specs.Proof.Rows.{ruleAt}
+use Rattle.model.specs.Tables.{ruleAt}
 use borrow.Author.Needs.{needs}
 use Rattle.devices.proofs.add_uuid.Statement.{statement}
 use Rattle.devices.proofs.add_uuid.Tie as tie
 use Rattle.devices.proofs.add_uuid.Reads as reads
 use Rattle.devices.proofs.add_uuid.Lts as lts
-use Rattle.devices.proofs.refuse.Reads as refuse-reads
+use Rattle.replies.proofs.refuse.Reads as refuse-reads
 use Rattle.devices.proofs.slot_for.Reads as slot-for-reads
 use Rattle.devices.proofs.store_uuid.Reads as store-uuid-reads
 use Rattle.layout.proofs.table_place.Reads as table-place-reads

@@ -8,15 +8,15 @@ use lib.ListN.{length, take, drop, getD, set, length-set}
 use Rattle.devices.proofs.Bridge.{block-length, block-bad, block-again, block-full, block-done, size4}
 use Rattle.devices.proofs.Laws.{record-room, fits, canonical}
 use lib.Dec.{lit<}
-use Rattle.model.specs.Proof.Rows.{ruleAt}
+use Rattle.model.specs.Tables.{ruleAt}
 use borrow.Author.Needs.{needs}
 use Rattle.devices.proofs.block_device.Statement.{statement}
 use Rattle.devices.proofs.block_device.Tie as tie
 use Rattle.devices.proofs.block_device.Reads as reads
 use Rattle.devices.proofs.block_device.Lts as lts
 use Rattle.devices.proofs.device_reply.Reads as device-reply-reads
-use Rattle.devices.proofs.refuse.Reads as refuse-reads
-use Rattle.devices.proofs.refuse_address.Reads as refuse-address-reads
+use Rattle.replies.proofs.refuse.Reads as refuse-reads
+use Rattle.replies.proofs.refuse_address.Reads as refuse-address-reads
 use Rattle.layout.proofs.table_place.Reads as table-place-reads
 use Rattle.records.proofs.record_ok.Reads as record-ok-reads
 use Rattle.table.proofs.find.Reads as find-reads

@@ -15,8 +15,8 @@ use Rattle.devices.proofs.remove_device.Tie as tie
 use Rattle.devices.proofs.remove_device.Reads as reads
 use Rattle.devices.proofs.remove_device.Lts as lts
 use Rattle.devices.proofs.names_record.Reads as names-record-reads
-use Rattle.devices.proofs.refuse.Reads as refuse-reads
-use Rattle.devices.proofs.refuse_address.Reads as refuse-address-reads
+use Rattle.replies.proofs.refuse.Reads as refuse-reads
+use Rattle.replies.proofs.refuse_address.Reads as refuse-address-reads
 use Rattle.devices.proofs.release_named.Reads as release-named-reads
 use Rattle.devices.proofs.removal_ok.Reads as removal-ok-reads
 use Rattle.devices.proofs.removed_reply.Reads as removed-reply-reads

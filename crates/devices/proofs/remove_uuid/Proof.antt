@@ -15,7 +15,7 @@ use Rattle.devices.proofs.remove_uuid.Reads as reads
 use Rattle.devices.proofs.remove_uuid.Lts as lts
 use Rattle.devices.proofs.class_reply.Reads as class-reply-reads
 use Rattle.devices.proofs.names_record.Reads as names-record-reads
-use Rattle.devices.proofs.refuse.Reads as refuse-reads
+use Rattle.replies.proofs.refuse.Reads as refuse-reads
 use Rattle.devices.proofs.release_named.Reads as release-named-reads
 use Rattle.layout.proofs.table_place.Reads as table-place-reads
 use Rattle.octets.proofs.all_zero.Reads as all-zero-reads

@@ -14,7 +14,7 @@ use Rattle.dispatch.proofs.dispatch.Reads as reads
 use Rattle.dispatch.proofs.dispatch.Lts as lts
 use Rattle.dispatch.proofs.controller_command.Reads as controller-command-reads
 use Rattle.dispatch.proofs.to_controller.Reads as to-controller-reads
-use Rattle.devices.proofs.refuse.Reads as refuse-reads
+use Rattle.replies.proofs.refuse.Reads as refuse-reads
 use Rattle.layout.proofs.present.Reads as present-reads
 use Rattle.information.proofs.read_commands.Reads as read-commands-reads
 use Rattle.information.proofs.read_indexes.Reads as read-indexes-reads

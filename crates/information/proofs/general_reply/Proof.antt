@@ -12,7 +12,7 @@ use Rattle.information.proofs.general_reply.Tie as tie
 use Rattle.information.proofs.general_reply.Reads as reads
 use Rattle.information.proofs.general_reply.Lts as lts
 use Rattle.replies.proofs.command_complete.Reads as command-complete-reads
-use Rattle.replies.proofs.command_status.Reads as command-status-reads
+use Rattle.replies.proofs.refuse.Reads as refuse-reads
 
 -- src/lib.rt:22:13
 command-complete-requires : tie.Need-command-complete-requires
@@ -31,8 +31,8 @@ returns : tie.Need-returns
 returns c = reply-done _ _ _ _ _ _ _ (search needs) (c .before .before .before .before .before .if1 .taken) (c .before .before .before .before .if2 .taken) (search needs) refl (c .before .before .command-complete .ensures)
 
 -- src/lib.rt:25:9
-command-status-requires : tie.Need-command-status-requires
-command-status-requires c κs = search needs
+refuse-requires : tie.Need-refuse-requires
+refuse-requires c κs = search needs
 
 -- src/lib.rt:26:9
 same-length-2 : tie.Need-same-length-2
@@ -40,11 +40,11 @@ same-length-2 c = search needs
 
 -- src/lib.rt:26:9
 returns-2 : tie.Need-returns-2
-returns-2 c = reply-length _ _ _ _ _ _ _ (search needs) (c .before .before .before .before .before .if1 .taken) (c .before .before .before .before .if2 .left) refl (c .before .before .command-status .ensures)
+returns-2 c = reply-length _ _ _ _ _ _ _ (search needs) (c .before .before .before .before .before .if1 .taken) (c .before .before .before .before .if2 .left) (c .before .before .refuse .ensures .0) (c .before .before .refuse .ensures .1)
 
 -- src/lib.rt:28:5
-command-status-requires-2 : tie.Need-command-status-requires-2
-command-status-requires-2 c κs = search needs
+refuse-requires-2 : tie.Need-refuse-requires-2
+refuse-requires-2 c κs = search needs
 
 -- src/lib.rt:16:1
 same-length-3 : tie.Need-same-length-3
@@ -52,7 +52,7 @@ same-length-3 c = search needs
 
 -- src/lib.rt:16:1
 returns-3 : tie.Need-returns-3
-returns-3 c = reply-index _ _ _ _ _ _ _ (search needs) (c .before .before .before .before .if1 .left) refl (c .before .before .command-status2 .ensures)
+returns-3 c = reply-index _ _ _ _ _ _ _ (search needs) (c .before .before .before .before .if1 .left) (c .before .before .refuse2 .ensures .0) (c .before .before .refuse2 .ensures .1)
 
 pub general-reply-spec : {M : Type 1} → statement M
 general-reply-spec =
@@ -62,9 +62,9 @@ general-reply-spec =
     add-t13
     same-length
     returns
-    command-status-requires
+    refuse-requires
     same-length-2
     returns-2
-    command-status-requires-2
+    refuse-requires-2
     same-length-3
     returns-3)

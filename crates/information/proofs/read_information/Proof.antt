@@ -13,11 +13,11 @@ use Rattle.information.proofs.read_information.Reads as reads
 use Rattle.information.proofs.read_information.Lts as lts
 use Rattle.information.proofs.put_information.Reads as put-information-reads
 use Rattle.replies.proofs.command_complete.Reads as command-complete-reads
-use Rattle.replies.proofs.command_status.Reads as command-status-reads
+use Rattle.replies.proofs.refuse.Reads as refuse-reads
 
 -- src/lib.rt:179:9
-command-status-requires : tie.Need-command-status-requires
-command-status-requires c κs = search needs
+refuse-requires : tie.Need-refuse-requires
+refuse-requires c κs = search needs
 
 -- src/lib.rt:180:9
 same-length : tie.Need-same-length
@@ -25,7 +25,7 @@ same-length c = search needs
 
 -- src/lib.rt:180:9
 returns : tie.Need-returns
-returns c = information-length _ _ _ _ _ _ (search needs) (search needs) (c .before .before .before .before .if1 .taken) refl (c .before .before .command-status .ensures)
+returns c = information-length _ _ _ _ _ _ (search needs) (search needs) (c .before .before .before .before .if1 .taken) (c .before .before .refuse .ensures .0) (c .before .before .refuse .ensures .1)
 
 -- src/lib.rt:183:35
 slice-aggregate-put-information : tie.Need-slice-aggregate-put-information
@@ -55,7 +55,7 @@ pub read-information-spec : {M : Type 1} → statement M
 read-information-spec =
     tie.close
     (tie.spec
-    command-status-requires
+    refuse-requires
     same-length
     returns
     slice-aggregate-put-information

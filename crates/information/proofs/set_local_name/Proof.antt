@@ -11,7 +11,7 @@ use Rattle.information.proofs.set_local_name.Statement.{statement}
 use Rattle.information.proofs.set_local_name.Tie as tie
 use Rattle.information.proofs.set_local_name.Reads as reads
 use Rattle.information.proofs.set_local_name.Lts as lts
-use Rattle.information.proofs.refuse_name.Reads as refuse-name-reads
+use Rattle.replies.proofs.refuse.Reads as refuse-reads
 use Rattle.layout.proofs.name_place.Reads as name-place-reads
 use Rattle.layout.proofs.put_name.Reads as put-name-reads
 use Rattle.octets.proofs.same_part.Reads as same-part-reads
@@ -19,8 +19,8 @@ use Rattle.replies.proofs.command_complete.Reads as command-complete-reads
 use Rattle.replies.proofs.event.Reads as event-reads
 
 -- src/lib.rt:110:9
-refuse-name-requires : tie.Need-refuse-name-requires
-refuse-name-requires c κs = search needs
+refuse-requires : tie.Need-refuse-requires
+refuse-requires c κs = search needs
 
 -- src/lib.rt:110:9
 same-length : tie.Need-same-length
@@ -28,15 +28,15 @@ same-length c = search needs
 
 -- src/lib.rt:110:9
 returns : tie.Need-returns
-returns c = name-length _ _ _ _ _ _ (search needs) (search needs) (c .before .before .before .before .if1 .taken) (c .before .before .refuse-name .ensures .0) (c .before .before .refuse-name .ensures .1)
+returns c = name-length _ _ _ _ _ _ (search needs) (search needs) (c .before .before .before .before .if1 .taken) (c .before .before .refuse .ensures .0) (c .before .before .refuse .ensures .1)
 
 -- src/lib.rt:112:8
 shared-slice-read-if2 : tie.Need-shared-slice-read-if2
 shared-slice-read-if2 c = search needs
 
 -- src/lib.rt:113:9
-refuse-name-requires-2 : tie.Need-refuse-name-requires-2
-refuse-name-requires-2 c κs = search needs
+refuse-requires-2 : tie.Need-refuse-requires-2
+refuse-requires-2 c κs = search needs
 
 -- src/lib.rt:113:9
 same-length-2 : tie.Need-same-length-2
@@ -44,15 +44,15 @@ same-length-2 c = search needs
 
 -- src/lib.rt:113:9
 returns-2 : tie.Need-returns-2
-returns-2 c = name-open _ _ _ _ _ _ (search needs) (search needs) (c .before .before .before .before .before .before .if1 .left) (c .before .before .before .before .if2 .taken) (c .before .before .refuse-name2 .ensures .0) (c .before .before .refuse-name2 .ensures .1)
+returns-2 c = name-open _ _ _ _ _ _ (search needs) (search needs) (c .before .before .before .before .before .before .if1 .left) (c .before .before .before .before .if2 .taken) (c .before .before .refuse2 .ensures .0) (c .before .before .refuse2 .ensures .1)
 
 -- src/lib.rt:115:8
 shared-slice-read-if3 : tie.Need-shared-slice-read-if3
 shared-slice-read-if3 c = search needs
 
 -- src/lib.rt:116:9
-refuse-name-requires-3 : tie.Need-refuse-name-requires-3
-refuse-name-requires-3 c κs = search needs
+refuse-requires-3 : tie.Need-refuse-requires-3
+refuse-requires-3 c κs = search needs
 
 -- src/lib.rt:116:9
 same-length-3 : tie.Need-same-length-3
@@ -60,7 +60,7 @@ same-length-3 c = search needs
 
 -- src/lib.rt:116:9
 returns-3 : tie.Need-returns-3
-returns-3 c = short-open _ _ _ _ _ _ (search needs) (search needs) (c .before .before .before .before .before .before .before .before .if1 .left) (c .before .before .before .before .before .before .if2 .left) (c .before .before .before .before .if3 .taken) (c .before .before .refuse-name3 .ensures .0) (c .before .before .refuse-name3 .ensures .1)
+returns-3 c = short-open _ _ _ _ _ _ (search needs) (search needs) (c .before .before .before .before .before .before .before .before .if1 .left) (c .before .before .before .before .before .before .if2 .left) (c .before .before .before .before .if3 .taken) (c .before .before .refuse3 .ensures .0) (c .before .before .refuse3 .ensures .1)
 
 -- src/lib.rt:118:9
 name-place-requires : tie.Need-name-place-requires
@@ -110,15 +110,15 @@ pub set-local-name-spec : {M : Type 1} → statement M
 set-local-name-spec =
     tie.close
     (tie.spec
-    refuse-name-requires
+    refuse-requires
     same-length
     returns
     shared-slice-read-if2
-    refuse-name-requires-2
+    refuse-requires-2
     same-length-2
     returns-2
     shared-slice-read-if3
-    refuse-name-requires-3
+    refuse-requires-3
     same-length-3
     returns-3
     name-place-requires

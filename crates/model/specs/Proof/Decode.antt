@@ -22,7 +22,7 @@ use Rattle.model.specs.Layout.{openBack, openIn, openPart, openWith, ope
 use Rattle.model.specs.Layout.{tablesBack}
 use Rattle.model.specs.Proof.Layout.{length-block, length-open, length-slots}
 use Rattle.model.specs.Proof.Region.{occupancy-lt}
-use Rattle.model.specs.Proof.Rows.{controller-fit, lengths, widths-fit}
+use Rattle.model.specs.Proof.Parts.{controller-fit, lengths, widths-fit}
 use Rattle.model.specs.Proof.Stays.{plain-fit}
 use Rattle.model.specs.Proof.Tables.{table-fit}
 use Rattle.model.specs.Proof.EveryRow.{Each, _&_, end, found}

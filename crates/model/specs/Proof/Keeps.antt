@@ -80,7 +80,7 @@ opens-length (s ∷ ss) [] e = no-way (sym e)
 opens-length (s ∷ ss) (o ∷ os) e = ap suc (opens-length ss os (and-true (openOk s o) _ e .1))
 
 -- what well formed says of the open command at a place
-opens-at : (ss : List (Option Controller)) (os : List (Option OpenCommand)) (i : ℕ) → opensOk ss os ≡ true → openOk (getD ss i none) (getD os i none) ≡ true
+pub opens-at : (ss : List (Option Controller)) (os : List (Option OpenCommand)) (i : ℕ) → opensOk ss os ≡ true → openOk (getD ss i none) (getD os i none) ≡ true
 unfolding opensOk openOk
 opens-at [] [] i e = refl
 opens-at [] (o ∷ os) i e = no-way (sym e)

@@ -25,7 +25,8 @@ use Rattle.model.specs.Meanings.{badState, laidOut, meaning, stateOk}
 use Rattle.model.specs.Proof.Demand3.{state-well}
 use Rattle.model.specs.Proof.Keeps.{well-fit}
 use Rattle.model.specs.Proof.RoundTrip.{length-entries}
-use Rattle.model.specs.Proof.Rows.{lengths, ruleAt, table-ok}
+use Rattle.model.specs.Proof.Parts.{lengths, table-ok}
+use Rattle.model.specs.Tables.{ruleAt}
 use Rattle.model.specs.Proof.Stays.{controller-ok, plain-fit}
 use Rattle.model.specs.Proof.Tables.{table-fit}
 use Rattle.model.specs.Proof.EveryRow.{Each, _&_, end, found}

@@ -17,7 +17,7 @@ use Rattle.model.specs.Tables.{supportOk, tableRules, uuidRule}
 use Rattle.model.specs.Image.{Parsed, closedUp, controllerImage, controllerImages, controllerThen, flagsOf, flagsOk, image, load, nameOk, parseController}
 use Rattle.model.specs.Image.{parseControllers, parseRadio, parseTables, radioOk, reloaded, reloadedHub, reloadedSlot, tableImage, tableThen}
 use Rattle.model.specs.WellFormed.{controllerOk, plainOk, slotOk, slotsOk, tableOk, tablesOk}
-use Rattle.model.specs.Proof.Rows.{controller-fit, lengths, widths-fit}
+use Rattle.model.specs.Proof.Parts.{controller-fit, lengths, widths-fit}
 use Rattle.model.specs.Proof.Stays.{plain-fit}
 use Rattle.model.specs.Proof.Tables.{eqb-self, table-fit}
 use Rattle.model.specs.Proof.Tests.{Six, and-true, equal, no-way, six, six-of}

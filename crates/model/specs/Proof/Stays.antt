@@ -23,7 +23,8 @@ use Rattle.model.specs.WellFormed.{addressed, callWide, callsWide, contr
 use Rattle.model.specs.Demand3.{Left, Pending, Sorted, after, entry, kept, moved, noPending, reduce, saysBusy, sort, struck, trace}
 use Rattle.model.specs.Proof.Commute.{step}
 use Rattle.model.specs.Proof.Invariant.{Fits, Inv, Ok, nothing-none, rests, start, waits}
-use Rattle.model.specs.Proof.Rows.{ControllerFit, ImmediateOk, Keeps, KeepsImmediate, KeepsRadio, Widths, controller-fit, fit-controller, fit-widths, rule-keeps, widths-fit}
+use Rattle.model.specs.Proof.Parts.{ControllerFit, Widths, controller-fit, fit-controller, fit-widths, widths-fit}
+use Rattle.model.specs.Proof.Rows.{ImmediateOk, Keeps, KeepsImmediate, KeepsRadio, rule-keeps}
 use Rattle.model.specs.Proof.Tables.{bytes-drop, lt-true}
 use Rattle.model.specs.Proof.Tests.{and-true, both, either, equal, or-true}
 
@@ -114,7 +115,7 @@ seconds-counted step t e =
     (λ _. let lt : t .seconds < 65536 = ltb→lt _ _ (rw e tt) in lt-true (t .seconds - step) 65536 (omega arith))
 
 -- a controller whose timer is counted down
-tick-ok : (step : ℕ) (c : Controller) → controllerOk c ≡ true → controllerOk (tick step c) ≡ true
+pub tick-ok : (step : ℕ) (c : Controller) → controllerOk c ≡ true → controllerOk (tick step c) ≡ true
 unfolding tick withTimer withHost timerOk
 tick-ok step c k = fit-controller (tick step c) (record {
   radio = h .radio;

@@ -322,3 +322,9 @@ lt-true m n h = go (ltb m n) (lt→ltb m n h)
     go : (b : Bool) → T b → b ≡ true
     go true t = refl
     go false t = absurd t
+
+-- n records are cut
+pub length-chop : (size n : ℕ) (o : Octets) → length (chop size n o) ≡ n
+unfolding chop
+length-chop size zero o = refl
+length-chop size (suc n) o = ap suc (length-chop size n (drop size o))

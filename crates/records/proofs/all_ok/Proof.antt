@@ -5,7 +5,7 @@ use Prim.Native.Nat.{_+_, _*_, _≤_}
 use native.Mathlib.Omega.{arith}
 use lib.ListN.{length}
 use Rattle.model.specs.Tables.{every, recordOk}
-use Rattle.model.specs.Proof.Rows.{ruleAt}
+use Rattle.model.specs.Tables.{ruleAt}
 use Rattle.records.specs.Slots.{recordsAt}
 use Rattle.records.proofs.Laws.{room, every-used, every-fails, every-free, every-none, every-end}
 use borrow.Author.Tests.{not-true, not-false}

@@ -3,7 +3,7 @@ use mathlib.Core.Path.{_≡_}
 use native.Mathlib.Omega.{arith}
 use Rattle.records.proofs.Laws.{rule0, rule1, rule2, rule3, rule4, rule5}
 use Rattle.model.specs.Tables.{uuidRule, linkKeyRule, longTermKeyRule, identityKeyRule, blockedRule, deviceRule}
-use Rattle.model.specs.Proof.Rows.{ruleAt}
+use Rattle.model.specs.Tables.{ruleAt}
 use Rattle.records.proofs.record_ok.Statement.{statement}
 use Rattle.records.proofs.record_ok.Tie as tie
 

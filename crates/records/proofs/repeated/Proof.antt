@@ -9,7 +9,7 @@ use denote.Ref.{now}
 use mathlib.Core.List.{map}
 use Rattle.model.specs.Octets.{same}
 use Rattle.model.specs.Tables.{any}
-use Rattle.model.specs.Proof.Rows.{ruleAt}
+use Rattle.model.specs.Tables.{ruleAt}
 use Rattle.octets.specs.Parts.{part}
 use Rattle.records.specs.Slots.{recordsAt}
 use borrow.Author.Needs.{needs}

@@ -12,7 +12,7 @@ use Rattle.settings.proofs.conclude.Tie as tie
 use Rattle.settings.proofs.conclude.Reads as reads
 use Rattle.settings.proofs.conclude.Lts as lts
 use Rattle.settings.proofs.contend.Reads as contend-reads
-use Rattle.settings.proofs.refuse.Reads as refuse-reads
+use Rattle.replies.proofs.refuse.Reads as refuse-reads
 
 -- src/lib.rt:111:26
 enum-known-d : tie.Need-enum-known-d

@@ -14,7 +14,7 @@ use Rattle.settings.proofs.contend.Lts as lts
 use Rattle.layout.proofs.open_code.Reads as open-code-reads
 use Rattle.layout.proofs.put_open.Reads as put-open-reads
 use Rattle.settings.proofs.apply.Reads as apply-reads
-use Rattle.settings.proofs.refuse.Reads as refuse-reads
+use Rattle.replies.proofs.refuse.Reads as refuse-reads
 
 -- src/lib.rt:82:8
 open-code-requires : tie.Need-open-code-requires

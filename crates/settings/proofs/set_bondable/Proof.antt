@@ -14,7 +14,7 @@ use Rattle.settings.proofs.set_bondable.Lts as lts
 use Rattle.layout.proofs.settings_at.Reads as settings-at-reads
 use Rattle.rules.proofs.with_bondable.Reads as with-bondable-reads
 use Rattle.settings.proofs.apply.Reads as apply-reads
-use Rattle.settings.proofs.refuse.Reads as refuse-reads
+use Rattle.replies.proofs.refuse.Reads as refuse-reads
 
 -- src/lib.rt:55:9
 refuse-requires : tie.Need-refuse-requires

@@ -16,7 +16,7 @@ use Rattle.layout.proofs.settings_at.Reads as settings-at-reads
 use Rattle.rules.proofs.decide_low_energy.Reads as decide-low-energy-reads
 use Rattle.rules.proofs.effect_low_energy.Reads as effect-low-energy-reads
 use Rattle.settings.proofs.conclude.Reads as conclude-reads
-use Rattle.settings.proofs.refuse.Reads as refuse-reads
+use Rattle.replies.proofs.refuse.Reads as refuse-reads
 
 -- src/lib.rt:166:9
 refuse-requires : tie.Need-refuse-requires

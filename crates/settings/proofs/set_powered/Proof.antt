@@ -16,7 +16,7 @@ use Rattle.layout.proofs.settings_at.Reads as settings-at-reads
 use Rattle.rules.proofs.decide_powered.Reads as decide-powered-reads
 use Rattle.rules.proofs.effect_powered.Reads as effect-powered-reads
 use Rattle.settings.proofs.conclude.Reads as conclude-reads
-use Rattle.settings.proofs.refuse.Reads as refuse-reads
+use Rattle.replies.proofs.refuse.Reads as refuse-reads
 
 -- src/lib.rt:124:9
 refuse-requires : tie.Need-refuse-requires

@@ -1,9 +1,9 @@
--- `keys::refuse_address` meets its contract. The address and type are the first seven octets.
+-- `replies::refuse_address` meets its contract. The address and type are the first seven octets.
 use mathlib.Core.Path.{refl, _∙_}
-use Rattle.keys.proofs.Unpairs.{first-seven}
+use Rattle.octets.specs.Parts.{part-first}
 use borrow.Author.Needs.{needs}
-use Rattle.keys.proofs.refuse_address.Statement.{statement}
-use Rattle.keys.proofs.refuse_address.Tie as tie
+use Rattle.replies.proofs.refuse_address.Statement.{statement}
+use Rattle.replies.proofs.refuse_address.Tie as tie
 
 command-complete-part-requires : tie.Need-command-complete-part-requires
 command-complete-part-requires c κs = search needs
@@ -12,7 +12,7 @@ same-length : tie.Need-same-length
 same-length c = search needs
 
 returns : tie.Need-returns
-returns c = (refl, (c .before .before .command-complete-part .ensures) ∙ rw (first-seven (c .before .before .before .before .before .before .args .ps .now)))
+returns c = (refl, c .before .before .command-complete-part .ensures ∙ rw (part-first (c .before .before .before .before .before .before .args .ps .now) 7))
 
 pub refuse-address-spec : {M : Type 1} → statement M
 refuse-address-spec = tie.close (tie.spec command-complete-part-requires same-length returns)
