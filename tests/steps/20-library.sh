@@ -4,7 +4,7 @@ set -euo pipefail
 cd "$(dirname "$0")/../.."
 export LC_ALL=C
 command -v valgrind > /dev/null || { apt-get update -qq; apt-get install -y -qq valgrind; } > /dev/null
-rt staticlib hub > /dev/null
+[ -n "${HUB_BUILT:-}" ] || rt staticlib hub > /dev/null
 lib=target/staticlib/libhub.a
 out=target/tests/c
 mkdir -p "$out"

@@ -3,7 +3,7 @@
 set -euo pipefail
 cd "$(dirname "$0")/../.."
 command -v valgrind > /dev/null || { apt-get update -qq; apt-get install -y -qq valgrind; } > /dev/null
-rt staticlib hub > /dev/null
+[ -n "${HUB_BUILT:-}" ] || rt staticlib hub > /dev/null
 out=target/tests/c
 mkdir -p "$out"
 for program in one_octet bad_input; do

@@ -3,7 +3,7 @@
 set -euo pipefail
 cd "$(dirname "$0")/../.."
 export LC_ALL=C TZ=UTC
-rt staticlib hub > /dev/null
+[ -n "${HUB_BUILT:-}" ] || rt staticlib hub > /dev/null
 out=target/tests/btsnoop
 mkdir -p "$out"
 flags="-std=c11 -g -O1 -Wall -Wextra -Werror"
