@@ -22,7 +22,7 @@ use Rattle.model.specs.Tables.{TableRule, chop, distinct, empty, entries, every
 use Rattle.model.specs.Image.{nameOk, radioOk}
 use Rattle.model.specs.Layout.{slotsBack}
 use Rattle.model.specs.Tables.{ruleAt}
-use Rattle.model.specs.Proof.Tests.{and-true, or-true}
+use Rattle.model.specs.Proof.Tests.{and-true, or-true, and-off}
 use Rattle.model.specs.Rules.{setConnectable, setDiscoverable, setLowEnergy, setPowered}
 use Rattle.layout.specs.Places.{base, controllerOf, placeOf, presentAt, sizes}
 use Rattle.layout.specs.Reads.{name-at}
@@ -30,15 +30,17 @@ use Rattle.octets.specs.Parts.{getD-part, length-part, part, placeAt}
 use Rattle.octets.proofs.Laws.{part-suc}
 use Rattle.rules.specs.declared.Decision.{Decision}
 use Rattle.rules.specs.Decisions.{decision, isWait, settingsOk}
-use Rattle.checks.specs.Tests.{and-off, and-on}
+use Rattle.checks.specs.Tests.{and-on}
 use Rattle.checks.specs.Settings.{flagsFine}
 use Rattle.checks.specs.Present.{blockAt, presentFine}
 use Rattle.checks.specs.Slots.{freeZero, zero-rest}
-use Rattle.checks.specs.Tables.{drop-part, tableFine, tablesFine, total}
+use Rattle.checks.specs.Tables.{drop-part, tableFine, tablesFine, total, assoc}
 use Rattle.records.specs.Slots.{no-slots, recordsAt}
 use Rattle.table.specs.Slots.{tableAt}
 use Rattle.checks.specs.Open.{fine-connectable, fine-discoverable, fine-low-energy, fine-none, fine-other, fine-powered, fine-some, openFine, startedFine}
+use Rattle.layout.specs.Tables.{rules-six}
 
+-- a test of the code, as the model's test
 pub ruleset tests = (eq-eqb, ne-eqb, le-leb, lt-leb, le-ltb, lt-ltb)
 
 -- 1. Zeros ------------------------------------------------------------------------------------------------------------------------------------
@@ -53,13 +55,10 @@ or-zero a b = go (eqb a 0) refl
         let n = eqb-false a 0 e in
         ne-eqb (bitOr a b) 0 (λ q. n (omega (arith, or-add-and a b, and-le-r a b)))
 
+-- a part is zero if its first octet is and the rest is
 zeros-suc : (s : Octets) (a n : ℕ) → a < length s → allZero (part s a (suc n)) ≡ eqb (getD s a 0) 0 && allZero (part s (a + 1) n)
 unfolding allZero
 zeros-suc s a n h = rw (part-suc s a n h)
-
-assoc : (a b c : Bool) → a && b && c ≡ a && (b && c)
-assoc true b c = refl
-assoc false b c = refl
 
 -- what is joined so far and what is left
 pub blank-turn : (s : Octets) (at n i joined : ℕ) → i < n → at + n ≤ length s
@@ -69,19 +68,23 @@ blank-turn s at n i joined l h =
     let f : at + (i + 1) ≡ at + i + 1 = omega arith in
     rw (e, f, or-zero joined (getD s (at + i) 0), zeros-suc s (at + i) (n - (i + 1)) (omega arith)) (assoc (eqb joined 0) (eqb (getD s (at + i) 0) 0) (allZero (part s (at + i + 1) (n - (i + 1)))))
 
+-- before the first turn, the whole part is left
 pub blank-first : (s : Octets) (at n : ℕ) → allZero (part s (at + 0) (n - 0)) ≡ allZero (part s at n)
 blank-first s at n = rw (add-zero, sub-zero)
 
+-- after the last turn nothing is left, and what is joined tells
 pub blank-last : (s : Octets) (at n i joined : ℕ) → n ≤ i → eqb joined 0 ≡ eqb joined 0 && allZero (part s (at + i) (n - i))
 unfolding allZero part
 blank-last s at n i joined l = let e : n - i ≡ 0 = omega arith in rw e (sym (and-on (eqb joined 0)))
 
 -- 2. Places -----------------------------------------------------------------------------------------------------------------------------------
 
+-- the open command lies behind the first octet of a block
 pub place-one : (i : ℕ) → placeOf i 1 ≡ base i + 1
 unfolding placeOf placeAt sizes
 place-one i = refl
 
+-- the name lies 32 octets into a block
 pub place-name : (i : ℕ) → placeOf i 4 ≡ base i + 32
 unfolding placeOf placeAt sizes
 place-name i = refl
@@ -98,6 +101,7 @@ pub opens-none : (x : RadioSettings) (s : Octets) (at code : ℕ) → code ≡ u
 opens-none x s at code e z = sym (fine-none x (u16 s at) (part s (at + 2) 3) (sym e ∙ z))
 
 module _ (x : RadioSettings) (s : Octets) (at code : ℕ) (e : code ≡ u16 s at) (n : code ≡ 0 → ⊥) (h : at + 5 ≤ length s) where
+  -- three octets lie where the parameters are
   three : length (part s (at + 2) 3) ≡ 3
   three = length-part s (at + 2) 3 (omega arith)
 
@@ -106,27 +110,34 @@ module _ (x : RadioSettings) (s : Octets) (at code : ℕ) (e : code ≡ u16 s at
   unfolding part
   all-lent = let q : at + 5 - (at + 2) ≡ 3 = omega arith in rw q
 
+  -- the first of them alone, as it is lent
   first-lent : take (at + 3 - (at + 2)) (drop (at + 2) s) ≡ take 1 (part s (at + 2) 3)
   unfolding part
   first-lent = let q : at + 3 - (at + 2) ≡ 1 = omega arith in rw q (sym (take-take 1 3 (drop (at + 2) s) (omega arith)))
 
+  -- the two octets behind the first
   rest : drop 1 (part s (at + 2) 3) ≡ part s (at + 3) 2
   rest = let q : at + 2 + 1 ≡ at + 3 = omega arith in drop-part s (at + 2) 1 2 ∙ rw q
 
+  -- as the code is not zero, the test is that of a command that would be started
   fine : startedFine x code (part s (at + 2) 3) ≡ openFine x (u16 s at) (part s (at + 2) 3)
   fine = rw (← e) (sym (fine-some x code (part s (at + 2) 3) n))
 
+  -- Set Discoverable uses all three: it is fine exactly if it would wait for the radio
   pub opens-discoverable : code ≡ 6 → (d : Decision) → d ≡ decision setDiscoverable x (take (at + 5 - (at + 2)) (drop (at + 2) s)) → isWait d ≡ openFine x (u16 s at) (part s (at + 2) 3)
   opens-discoverable q d f = rw (f, all-lent) (sym (fine-discoverable x (part s (at + 2) 3) three code q) ∙ fine)
 
   -- one parameter octet, and zeros behind it
   module _ (z : allZero (part s (at + 3) 2) ≡ true) where
+    -- Set Powered is fine exactly if it would wait for the radio
     pub opens-powered : code ≡ 5 → (d : Decision) → d ≡ decision setPowered x (take (at + 3 - (at + 2)) (drop (at + 2) s)) → isWait d ≡ openFine x (u16 s at) (part s (at + 2) 3)
     opens-powered q d f = rw (f, first-lent) (sym (fine-powered x (part s (at + 2) 3) three code q ∙ rw (rest, z) (and-on (isWait (decision setPowered x (take 1 (part s (at + 2) 3)))))) ∙ fine)
 
+    -- the same, of Set Connectable
     pub opens-connectable : code ≡ 7 → (d : Decision) → d ≡ decision setConnectable x (take (at + 3 - (at + 2)) (drop (at + 2) s)) → isWait d ≡ openFine x (u16 s at) (part s (at + 2) 3)
     opens-connectable q d f = rw (f, first-lent) (sym (fine-connectable x (part s (at + 2) 3) three code q ∙ rw (rest, z) (and-on (isWait (decision setConnectable x (take 1 (part s (at + 2) 3)))))) ∙ fine)
 
+    -- the same, of Set Low Energy
     pub opens-low-energy : code ≡ 13 → (d : Decision) → d ≡ decision setLowEnergy x (take (at + 3 - (at + 2)) (drop (at + 2) s)) → isWait d ≡ openFine x (u16 s at) (part s (at + 2) 3)
     opens-low-energy q d f = rw (f, first-lent) (sym (fine-low-energy x (part s (at + 2) 3) three code q ∙ rw (rest, z) (and-on (isWait (decision setLowEnergy x (take 1 (part s (at + 2) 3)))))) ∙ fine)
 
@@ -156,12 +167,13 @@ module _ (x : RadioSettings) (s : Octets) (at code : ℕ) (e : code ≡ u16 s at
 pub zero-rest-of : (s : Octets) (size at n w : ℕ) → w ≡ 0 → allZero (part s at (size * n)) ≡ freeZero s size at n w
 zero-rest-of s size at n w e = rw e (zero-rest s size at n)
 
--- a word that is not zero marks a slot as used
+-- a word that is not zero and has no bit above the lowest has the lowest
 odd-one : (w : ℕ) → (w ≡ 0 → ⊥) → w / 2 ≡ 0 → w % 2 ≡ 1
 odd-one zero z q = absurd (z refl)
 odd-one (suc zero) z q = refl
 odd-one (suc (suc w)) z q = absurd (omega arith)
 
+-- so a table has a record if its word is not zero and sets no bit past its slots
 some-used : (size n w : ℕ) (o : Octets) → (w ≡ 0 → ⊥) → w < 2 ^ n → empty (entries (slotsBack w (chop size n o))) ≡ false
 unfolding empty entries slotsBack chop
 some-used size zero w o z l = absurd (z (omega arith))
@@ -208,10 +220,6 @@ module _ (u : TableRule) (f : Hardware) (s : Octets) (at size w : ℕ) (e : size
       let y : freeZero s (u .size) (at + 4) 32 (u32 s at) ≡ true = rw (e, q) at z in
       sym (rw (records-are, p, y, or-true (empty (recordsAt s (u .size) (at + 4) 32 w))) (and-on (recordsOk u (recordsAt s (u .size) (at + 4) 32 w))))
 
-rules-six : length tableRules ≡ 6
-unfolding tableRules
-rules-six = refl
-
 -- the rule of table k, and those of the tables behind it
 rules-from : (k : ℕ) → k < 6 → drop k tableRules ≡ ruleAt k ∷ drop (k + 1) tableRules
 unfolding ruleAt
@@ -219,20 +227,25 @@ rules-from k l = rw add-one (drop-cons tableRules k uuidRule (rw rules-six l))
 
 -- table k and those behind it
 module _ (s : Octets) (at k : ℕ) (l : k < 6) where
+  -- if they fit before an end, those behind table k fit from its own end on
   pub tables-room : (end : ℕ) → at + total (drop k tableRules) ≤ end → at + (4 + ruleAt k .size * 32) + total (drop (k + 1) tableRules) ≤ end
   unfolding total
   tables-room end h = let g : at + total (ruleAt k ∷ drop (k + 1) tableRules) ≤ end = rw (rules-from k l) at h in omega arith
 
+  -- they are fine if table k is, and those behind it are from its end on
   next : (f : Hardware) → tablesFine f (drop k tableRules) s at ≡ tableFine (ruleAt k) f s at && tablesFine f (drop (k + 1) tableRules) s (at + (4 + ruleAt k .size * 32))
   unfolding tablesFine
   next f = rw (rules-from k l)
 
+  -- where table k is fine, those behind it tell
   pub tables-turn : (f : Hardware) → tableFine (ruleAt k) f s at ≡ true → tablesFine f (drop (k + 1) tableRules) s (at + (4 + ruleAt k .size * 32)) ≡ tablesFine f (drop k tableRules) s at
   tables-turn f e = sym (next f ∙ rw e)
 
+  -- where table k is not fine, none behind it can mend that
   pub tables-fails : (f : Hardware) → tableFine (ruleAt k) f s at ≡ false → false ≡ tablesFine f (drop k tableRules) s at
   tables-fails f e = sym (next f ∙ rw e)
 
+-- past the sixth table nothing is left to test
 pub tables-end : (f : Hardware) (s : Octets) (at k : ℕ) → 6 ≤ k → true ≡ tablesFine f (drop k tableRules) s at
 unfolding tablesFine
 tables-end f s at k h = let e : drop k tableRules ≡ [] = drop-of-length-le tableRules {i = k} (rw rules-six h) in sym (rw e)
@@ -256,6 +269,7 @@ pub present-one : (s : Octets) (i : ℕ) → presentAt s i ≡ true → getD s (
 unfolding presentAt
 present-one s i e = eqb-true (getD s (base i) 0) 1 (and-true (ltb i 4) _ e .1)
 
+-- it is not 1 where no controller is there
 pub absent-other : (s : Octets) (i : ℕ) → i < 4 → presentAt s i ≡ false → getD s (base i) 0 ≡ 1 → ⊥
 unfolding presentAt
 absent-other s i l e = eqb-false (getD s (base i) 0) 1 (rw (lt-ltb i 4 l) at e)

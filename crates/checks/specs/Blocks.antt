@@ -73,10 +73,12 @@ clock-of : (s : Octets) → bytes s ≡ true → length s ≡ stateLength → ta
 unfolding part
 clock-of s w l = sym (le32-part s 0 w (omega arith))
 
+-- dropping the four octets of the clock leaves the blocks
 behind : (n : ℕ) (x s : Octets) → s ≡ le32 n ++ x → drop 4 s ≡ x
 unfolding le32
 behind n x s e = ap (drop 4) e
 
+-- which are together as long as four blocks
 length-behind : (s : Octets) → length s ≡ stateLength → length (drop 4 s) ≡ blockLength * 4
 length-behind s l = simp length-drop (omega arith)
 
@@ -86,6 +88,7 @@ unfolding controllersIn
 four o = refl
 
 module _ (s : Octets) (w : bytes s ≡ true) where
+  -- a well-formed state has the right length and four well-formed blocks
   down : stateOk s ≡ true → eqb (length s) stateLength && blocksOk 4 (drop 4 s) ≡ true
   unfolding wellFormed decode encode
   down e =
@@ -94,6 +97,7 @@ module _ (s : Octets) (w : bytes s ≡ true) where
       let f : o ≡ blocks (controllersIn 4 o) (opensIn 4 o) = behind (u32 s 0) _ s (state-back s e) in
       both (eq-eqb (length s) stateLength (state-long s e)) (each-block 4 o (record { slots = plain-fit (decode s .plain) (a .0) .slots; opens = a .1; whole = f }))
 
+  -- and such a state is well formed: the clock may be any four octets
   up : eqb (length s) stateLength && blocksOk 4 (drop 4 s) ≡ true → stateOk s ≡ true
   unfolding stateOk wellFormed plainOk decode encode
   up e =

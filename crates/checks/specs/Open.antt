@@ -20,11 +20,12 @@ use Rattle.model.specs.WellFormed.{openOk}
 use Rattle.model.specs.Layout.{openPart, openWith, sizeOf}
 use Rattle.model.specs.Proof.Decode.{started-by}
 use Rattle.model.specs.Proof.Tables.{bytes-take, eqb-self, same-refl}
-use Rattle.model.specs.Proof.Tests.{no-way}
+use Rattle.model.specs.Proof.Tests.{no-way, and-off}
 use Rattle.octets.specs.Parts.{length-part, part}
 use Rattle.rules.specs.Decisions.{decision, isWait}
 use Rattle.rules.proofs.Ties.{starts-is}
-use Rattle.checks.specs.Tests.{and-off, and-on, le16-part, one-test, part-add, same-append, same-zeros}
+use Rattle.checks.specs.Tests.{and-on, le16-part, one-test, part-add, same-append, same-zeros}
+use Rattle.model.specs.Proof.Room.{length-le16}
 
 -- 1. The test -------------------------------------------------------------------------------------------------------------------------------
 
@@ -36,10 +37,12 @@ startedFine x code ps = startsBy x (take (sizeOf (rule code)) ps) (rule code) &&
 unfoldable pub openFine : RadioSettings → ℕ → Octets → Bool
 openFine x code ps = elim (eqb code 0) [ true ↦ allZero ps | false ↦ startedFine x code ps ]
 
+-- with code zero, the parameters must be zero
 pub fine-none : (x : RadioSettings) (code : ℕ) (ps : Octets) → code ≡ 0 → openFine x code ps ≡ allZero ps
 unfolding openFine
 fine-none x code ps e = rw (eq-eqb code 0 e, openFine)
 
+-- with another code, the command must be one that would be started
 pub fine-some : (x : RadioSettings) (code : ℕ) (ps : Octets) → (code ≡ 0 → ⊥) → openFine x code ps ≡ startedFine x code ps
 unfolding openFine
 fine-some x code ps n = rw (ne-eqb code 0 n, openFine)
@@ -63,6 +66,7 @@ padded (a ∷ b ∷ c ∷ d ∷ ps) n l h = absurd (omega arith)
 starts-short : (x : RadioSettings) (code : ℕ) (ps : Octets) → startsBy x (take (sizeOf (rule code)) ps) (rule code) ≡ true → sizeOf (rule code) ≤ 3
 starts-short x code ps e = started-by x (record { code = code; params = take (sizeOf (rule code)) ps }) (rule code) refl e .three
 
+-- so whether it would be started shows in the first three octets behind its code
 starts-three : (x : RadioSettings) (code : ℕ) (ps : Octets) → startsBy x (take (sizeOf (rule code)) ps) (rule code) ≡ startsBy x (take (sizeOf (rule code)) (take 3 ps)) (rule code)
 starts-three x code ps = one-test _ _ down up
   where
@@ -82,10 +86,7 @@ starts-three x code ps = one-test _ _ down up
 five : (s : Octets) (at : ℕ) → bytes s ≡ true → at + 5 ≤ length s → part s at 5 ≡ le16 (u16 s at) ++ part s (at + 2) 3
 five s at w h = part-add s at 2 3 ∙ rw (← le16-part s at w (omega arith))
 
-length-le16 : (n : ℕ) → length (le16 n) ≡ 2
-unfolding le16
-length-le16 n = refl
-
+-- code zero is two zero octets
 zero-code : same (le16 0) (replicate 2 0) ≡ true
 unfolding le16 same
 zero-code = refl
@@ -150,6 +151,7 @@ unfolding startedFine sizeOf
 radio-is x code ps r e = rw e
 
 module _ (x : RadioSettings) (ps : Octets) (l : length ps ≡ 3) where
+  -- the first of three octets makes parameters of length one
   first : length (take 1 ps) ≡ 1
   first = simp length-take (omega arith)
 
@@ -158,10 +160,12 @@ module _ (x : RadioSettings) (ps : Octets) (l : length ps ≡ 3) where
   unfolding rule find rows setPowered
   fine-powered code e = rw e (radio-is x 5 ps setPowered refl ∙ rw (starts-is setPowered x (take 1 ps) first))
 
+  -- the same, of Set Connectable
   pub fine-connectable : (code : ℕ) → code ≡ 7 → startedFine x code ps ≡ isWait (decision setConnectable x (take 1 ps)) && allZero (drop 1 ps)
   unfolding rule find rows setConnectable
   fine-connectable code e = rw e (radio-is x 7 ps setConnectable refl ∙ rw (starts-is setConnectable x (take 1 ps) first))
 
+  -- the same, of Set Low Energy
   pub fine-low-energy : (code : ℕ) → code ≡ 13 → startedFine x code ps ≡ isWait (decision setLowEnergy x (take 1 ps)) && allZero (drop 1 ps)
   unfolding rule find rows setLowEnergy
   fine-low-energy code e = rw e (radio-is x 13 ps setLowEnergy refl ∙ rw (starts-is setLowEnergy x (take 1 ps) first))
@@ -176,6 +180,7 @@ Quiet : ℕ → List Row → Type 0
 Quiet code [] = Unit {0}
 Quiet code (r ∷ rs) = ((eqb (r .0) code ≡ false) ⊎ ((x : RadioSettings) (ps : Octets) → startsBy x ps (some (r .1)) ≡ false)) × Quiet code rs
 
+-- where each row has another code or never waits, the command of that code never waits
 quiet-found : (x : RadioSettings) (ps : Octets) (code : ℕ) (rs : List Row) → Quiet code rs → startsBy x ps (find code rs) ≡ false
 unfolding Quiet find startsBy
 quiet-found x ps code [] q = refl
@@ -190,10 +195,12 @@ static-acts : (x : RadioSettings) (ps : Octets) → startsBy x ps (some (radio s
 unfolding startsBy setStaticAddress
 static-acts x ps = rw (and-off, and-off, and-off)
 
+-- so it is for every code but the four of the commands that can wait
 quiet : (code : ℕ) → (code ≡ 5 → ⊥) → (code ≡ 6 → ⊥) → (code ≡ 7 → ⊥) → (code ≡ 13 → ⊥) → Quiet code rows
 unfolding Quiet rows startsBy
 quiet code n5 n6 n7 n13 = (inr (λ x ps. refl), (inr (λ x ps. refl), (inr (λ x ps. refl), (inr (λ x ps. refl), (inl (ne-eqb 5 code (λ e. n5 (sym e))), (inl (ne-eqb 6 code (λ e. n6 (sym e))), (inl (ne-eqb 7 code (λ e. n7 (sym e))), (inr (λ x ps. refl), (inl (ne-eqb 13 code (λ e. n13 (sym e))), (inr (λ x ps. refl), (inr (λ x ps. refl), (inr (λ x ps. refl), (inr (λ x ps. refl), (inr (λ x ps. refl), (inr (λ x ps. refl), (inr (λ x ps. refl), (inr (λ x ps. refl), (inr static-acts, (inr (λ x ps. refl), (inr (λ x ps. refl), (inr (λ x ps. refl), tt)))))))))))))))))))))
 
+-- an open command of any other code is never fine
 pub fine-other : (x : RadioSettings) (ps : Octets) (code : ℕ) → (code ≡ 5 → ⊥) → (code ≡ 6 → ⊥) → (code ≡ 7 → ⊥) → (code ≡ 13 → ⊥) → startedFine x code ps ≡ false
 unfolding startedFine rule
 fine-other x ps code n5 n6 n7 n13 = rw (quiet-found x (take (sizeOf (rule code)) ps) code rows (quiet code n5 n6 n7 n13))

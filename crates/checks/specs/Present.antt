@@ -22,14 +22,14 @@ use Rattle.model.specs.Proof.Parts.{fit-widths}
 use Rattle.model.specs.Proof.Layout.{length-open}
 use Rattle.model.specs.Proof.Tables.{byte-at, same-refl}
 use Rattle.model.specs.Proof.Tests.{and-true, both}
-use Rattle.octets.specs.Parts.{getD-part, length-part, part, placeAt}
+use Rattle.octets.specs.Parts.{getD-part, length-part, part, placeAt, u16-part}
 use Rattle.layout.specs.Places.{base, controllerOf, placeOf, sizes}
-use Rattle.layout.specs.Reads.{hardware-at, hardwareFrom, name-at, open-some, settings-at, settingsFrom}
+use Rattle.layout.specs.Reads.{hardware-at, hardwareFrom, name-at, open-some, settings-at, settingsFrom, controller-some}
 use Rattle.rules.specs.Decisions.{settingsOk}
 use Rattle.rules.proofs.Ties.{timer-ok-is}
 use Rattle.checks.specs.Tests.{and-on, one-test, part-bytes, same-append, same-zeros, u16-lt}
 use Rattle.checks.specs.Blocks.{blockOk, blocksOk, state-blocks}
-use Rattle.checks.specs.Tables.{drop-part, tables-are, tablesFine, total-six, u16-part}
+use Rattle.checks.specs.Tables.{drop-part, tables-are, tablesFine, total-six}
 use Rattle.checks.specs.Open.{open-is, openFine}
 use Rattle.checks.specs.Settings.{flagsFine, hardware-same, one-octet, part-cut, settings-long, settings-same}
 
@@ -39,16 +39,14 @@ blockAt s i = part s (base i) 4028
 
 -- 1. The first octet ----------------------------------------------------------------------------------------------------------------------------
 
+-- the first octet of a block is the one at its place in the state
 first-octet : (s : Octets) (i : ℕ) → getD (blockAt s i) 0 0 ≡ getD s (base i) 0
 first-octet s i = getD-part s (base i) 4028 0 (omega arith) ∙ rw add-zero
 
+-- where it is not 1, the block has no controller and nothing under way
 absent-in : (b : Octets) → eqb (getD b 0 0) 1 ≡ false → (controllerIn b ≡ none) × (openIn b ≡ none)
 unfolding controllerIn openIn
 absent-in b e = (rw (e, controllerIn), rw (e, openIn))
-
-present-in : (b : Octets) → eqb (getD b 0 0) 1 ≡ true → controllerIn b ≡ some (controllerBack (drop 6 b))
-unfolding controllerIn
-present-in b e = rw (e, controllerIn)
 
 -- an absent block is zero
 pub absent-block : (s : Octets) (i : ℕ) → base i + 4028 ≤ length s → (getD s (base i) 0 ≡ 1 → ⊥) → allZero (blockAt s i) ≡ blockOk (blockAt s i)
@@ -82,6 +80,7 @@ pieces-same a b c d e p q r s t f g h i =
     same-append a (b ++ (c ++ (d ++ e))) p (q ++ (r ++ (s ++ t))) f
     ∙ rw (same-append b (c ++ (d ++ e)) q (r ++ (s ++ t)) g, same-append c (d ++ e) r (s ++ t) h, same-append d e s t i)
 
+-- the three octets for parameters, cut from all that follow in the block
 take-three : (s : Octets) (at : ℕ) → take 3 (part s at 4025) ≡ part s at 3
 unfolding part
 take-three s at = take-take 3 4025 (drop at s) (omega arith)
@@ -137,10 +136,12 @@ module _ (s : Octets) (i : ℕ) (w : bytes s ≡ true) (h : base i + 4028 ≤ le
       ≡ tablesFine (controllerOf s i .radio .hardware) tableRules s (base i + 292)
   tables-fine = rw tables-here (rw total-six at (tables-are (controllerOf s i .radio .hardware) tableRules s (base i + 292) w (rw total-six (omega arith))))
 
+  -- the name is piece 4 of a block, 32 octets in
   name-place : placeOf i 4 ≡ base i + 32
   unfolding placeOf placeAt sizes
   name-place = refl
 
+  -- what lies there is the controller's name
   name-here : part s (base i + 32) 260 ≡ controllerOf s i .host .name
   name-here = rw (← name-place) (name-at s i)
 
@@ -159,10 +160,12 @@ module _ (s : Octets) (i : ℕ) (w : bytes s ≡ true) (h : base i + 4028 ≤ le
         seconds = rw (ap (λ (x : Settings). x .host .timer .seconds) (sym m)) (lt-ltb _ _ (u16-lt s (base i + 24) w));
       })
 
+  -- the static address has six octets, as it is cut from the block
   static-long : eqb (length (controllerOf s i .radio .staticAddress)) 6 ≡ true
   unfolding settingsFrom settingsOf
   static-long = rw (ap (λ (x : Settings). x .radio .staticAddress) (sym (settings-at s i))) (eq-eqb _ _ (length-part s (base i + 26) 6 (omega arith)))
 
+  -- and the name 260
   name-long : eqb (length (controllerOf s i .host .name)) 260 ≡ true
   name-long = rw (← name-here) (eq-eqb _ _ (length-part s (base i + 32) 260 (omega arith)))
 
@@ -203,9 +206,10 @@ module _ (s : Octets) (i : ℕ) (w : bytes s ≡ true) (h : base i + 4028 ≤ le
       let g : u16 (part s (b + 1) 4027) 0 ≡ u16 s (b + 1) = u16-part s (b + 1) 4027 0 (omega arith) ∙ rw add-zero in
       open-some (blockAt s i) p ∙ rw (d, f, g)
 
+  -- the controller of a present block is the one at its index
   controller-here : getD s (base i) 0 ≡ 1 → controllerIn (blockAt s i) ≡ some (controllerOf s i)
   unfolding controllerOf
-  controller-here e = present-in (blockAt s i) (rw (first-octet s i) (eq-eqb (getD s (base i) 0) 1 e))
+  controller-here e = controller-some (blockAt s i) (rw (first-octet s i) (eq-eqb (getD s (base i) 0) 1 e))
 
   -- and it would be started, or all is zero
   open-fine : (c : Controller) → openOk (some c) (openWith (u16 s (base i + 1)) (part s (base i + 1 + 2) 4025)) && same (part s (base i + 1) 5) (openPart (openWith (u16 s (base i + 1)) (part s (base i + 1 + 2) 4025)))

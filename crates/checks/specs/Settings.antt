@@ -45,6 +45,7 @@ five-octets s a b c d e f g h i l =
 
 -- 1. The hardware -----------------------------------------------------------------------------------------------------------------------------
 
+-- the hardware's thirteen octets are the one encoding of what they mean, whatever they are
 pub hardware-same : (s : Octets) (b : ℕ) → bytes s ≡ true → b + 19 ≤ length s → part s (b + 6) 13 ≡ hardwarePart (hardwareFrom s b)
 unfolding hardwarePart hardwareFrom
 hardware-same s b w h =
@@ -63,6 +64,7 @@ hardware-same s b w h =
 unfoldable pub flagsFine : Octets → ℕ → Bool
 flagsFine s b = leb (getD s (b + 19) 0) 1 && (leb (getD s (b + 20) 0) 1 && (leb (getD s (b + 21) 0) 1 && (leb (getD s (b + 22) 0) 1 && leb (getD s (b + 23) 0) 1)))
 
+-- an octet is that of the flag it means if it is 0 or 1
 flag-same : (x : ℕ) → eqb x (flag (eqb x 1) 1) ≡ leb x 1
 unfolding flag
 flag-same zero = refl
@@ -76,15 +78,18 @@ flag-same (suc (suc x)) = many x
         let g : leb (suc (suc x)) 1 ≡ false = lt-leb (suc (suc x)) 1 (omega arith) in
         rw (e, f, g)
 
+-- the same, of five flags in a row
 flags-same : (a b c d e : ℕ) → same (a ∷ b ∷ c ∷ d ∷ e ∷ []) (flag (eqb a 1) 1 ∷ flag (eqb b 1) 1 ∷ flag (eqb c 1) 1 ∷ flag (eqb d 1) 1 ∷ flag (eqb e 1) 1 ∷ [])
     ≡ leb a 1 && (leb b 1 && (leb c 1 && (leb d 1 && leb e 1)))
 unfolding same
 flags-same a b c d e = rw (flag-same a, flag-same b, flag-same c, flag-same d, flag-same e, and-on (leb e 1))
 
+-- the settings that a block means take thirteen octets, as many as it has for them
 pub settings-long : (s : Octets) (b : ℕ) (f : Hardware) → b + 32 ≤ length s → length (settingsPart (settingsFrom s b f)) ≡ 13
 unfolding settingsPart settingsFrom le16
 settings-long s b f h = omega (arith, length-part s (b + 26) 6 (omega arith))
 
+-- those thirteen octets are the one encoding of what they mean if the flags are 0 or 1
 pub settings-same : (s : Octets) (b : ℕ) (f : Hardware) → bytes s ≡ true → b + 32 ≤ length s → same (part s (b + 19) 13) (settingsPart (settingsFrom s b f)) ≡ flagsFine s b
 unfolding settingsPart settingsFrom flagsFine
 settings-same s b f w h =

@@ -34,15 +34,18 @@ unfolding slotOctets
 slot-same r size true l = same-refl r
 slot-same r size false l = same-zeros r size l
 
+-- in use or free, a slot is laid out in as many octets as it has
 slot-long : (r : Octets) (size : ℕ) (b : Bool) → length r ≡ size → length r ≡ length (slotOctets size (elim b [ true ↦ some r | false ↦ none ]))
 unfolding slotOctets
 slot-long r size true l = refl
 slot-long r size false l = l ∙ sym (length-replicate {A = ℕ} size 0)
 
+-- where no slots are left, there is nothing to compare
 no-slots : (s : Octets) (size place : ℕ) → same (part s place (size * 0)) [] ≡ true
 unfolding same part
 no-slots s size place = rw mul-zero
 
+-- slots are the one encoding of what they mean if the free ones are zero
 slots-same : (s : Octets) (size place n w : ℕ) → place + size * n ≤ length s
     → same (part s place (size * n)) (slots size (slotsBack w (chop size n (drop place s)))) ≡ freeZero s size place n w
 unfolding freeZero slots slotsBack chop part
@@ -71,6 +74,7 @@ region-same s at size w h =
 -- From slot to slot -------------------------------------------------------------------------------------------------------------------------
 
 module _ (s : Octets) (size at n w : ℕ) where
+  -- the first slot is in use or zero, and the rest is tested by the word's other bits
   step : 0 < n → freeZero s size at n w ≡ (eqb (w % 2) 1 || allZero (part s at size)) && freeZero s size (at + size) (n - 1) (w / 2)
   unfolding freeZero
   step l = go n l
@@ -87,9 +91,11 @@ module _ (s : Octets) (size at n w : ℕ) where
   pub zero-free : 0 < n → (w % 2 ≡ 1 → ⊥) → allZero (part s at size) ≡ true → freeZero s size (at + size) (n - 1) (w / 2) ≡ freeZero s size at n w
   zero-free l b z = sym (step l ∙ rw (ne-eqb (w % 2) 1 b, z))
 
+  -- a free slot that is not zero fails the test
   pub zero-fails : 0 < n → (w % 2 ≡ 1 → ⊥) → allZero (part s at size) ≡ false → false ≡ freeZero s size at n w
   zero-fails l b z = sym (step l ∙ rw (ne-eqb (w % 2) 1 b, z))
 
+  -- where no slots are left, the test has passed
   pub zero-end : n ≤ 0 → true ≡ freeZero s size at n w
   unfolding freeZero
   zero-end l = let e : n ≡ 0 = omega arith in rw e

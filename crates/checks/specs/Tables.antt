@@ -1,7 +1,7 @@
 -- The tables of a controller where they lie, one after the other: each keeps its rule, has the support it needs, and its free slots are zero.
-use Prim.Native.Nat.{ℕ, zero, suc, _+_, _*_, _/_, _%_, _<_, _≤_}
+use Prim.Native.Nat.{ℕ, zero, suc, _+_, _*_, _/_, _%_, _≤_}
 use native.Mathlib.Omega.{arith}
-use native.Mathlib.Nat.{add-zero, mul-suc}
+use native.Mathlib.Nat.{mul-suc}
 use mathlib.Core.Path.{_≡_, refl, sym, ap, _∙_}
 use mathlib.Core.Bool.{Bool, true, false, _&&_}
 use mathlib.Core.List.{List, [], _∷_, _++_}
@@ -10,18 +10,19 @@ use lib.ListN.{length, take, drop}
 use lib.Seq.{drop-drop, take-take}
 use lib.Dec.{eqb}
 use Rattle.model.specs.declared.Hardware.{Hardware}
-use Rattle.model.specs.Octets.{Octets, bytes, same, u16, u32}
+use Rattle.model.specs.Octets.{Octets, bytes, same, u32}
 use Rattle.model.specs.State.{Table}
 use Rattle.model.specs.Tables.{TableRule, blockedRule, chop, deviceRule, entries, every, identityKeyRule, linkKeyRule, longTermKeyRule, recordsOk, supportOk, tableRules, uuidRule}
 use Rattle.model.specs.WellFormed.{tableOk, tablesOk}
 use Rattle.model.specs.Layout.{region, regions, slotsBack, tableBack, tablesBack}
 use Rattle.model.specs.Proof.Tables.{bytes-chop, bytes-drop}
 use Rattle.model.specs.Proof.Tests.{and-true, both}
-use Rattle.octets.specs.Parts.{drop-take, getD-part, length-part, part}
+use Rattle.octets.specs.Parts.{drop-take, length-part, part, u32-part}
 use Rattle.table.specs.Slots.{tableAt}
 use Rattle.table.specs.Laws.{length-region, length-table, sized-at}
 use Rattle.checks.specs.Tests.{part-add, same-append}
 use Rattle.checks.specs.Slots.{freeZero, region-same}
+use Rattle.layout.specs.Tables.{behind-word}
 
 -- 1. One table ------------------------------------------------------------------------------------------------------------------------------
 
@@ -45,6 +46,7 @@ every-back m w (r ∷ rs) e =
     go true h i = both h i
     go false h i = i
 
+-- so are those of a table that lies in the state
 table-bytes : (s : Octets) (at size : ℕ) → bytes s ≡ true → every bytes (entries (tableAt s at size)) ≡ true
 unfolding tableAt
 table-bytes s at size w = every-back bytes (u32 s at) (chop size 32 (drop (at + 4) s)) (bytes-chop size 32 (drop (at + 4) s) (bytes-drop (at + 4) s w))
@@ -55,8 +57,9 @@ table-is : (u : TableRule) (f : Hardware) (s : Octets) (at : ℕ) → bytes s �
 unfolding tableOk
 table-is u f s at w = rw (length-table s at (u .size), table-bytes s at (u .size) w)
 
--- 2. The tables behind one another ------------------------------------------------------------------------------------------------------------
+-- 2. The tables behind-word one another ------------------------------------------------------------------------------------------------------------
 
+-- each table of the list is fine, from where the one before it ends
 unfoldable pub tablesFine : Hardware → List TableRule → Octets → ℕ → Bool
 tablesFine f [] s at = true
 tablesFine f (u ∷ us) s at = tableFine u f s at && tablesFine f us s (at + (4 + u .size * 32))
@@ -71,17 +74,6 @@ pub total-six : total tableRules ≡ 3736
 unfolding total tableRules uuidRule linkKeyRule longTermKeyRule identityKeyRule blockedRule deviceRule
 total-six = refl
 
--- numbers in a part
-pub u16-part : (s : Octets) (b m k : ℕ) → k + 1 < m → u16 (part s b m) k ≡ u16 s (b + k)
-unfolding u16
-u16-part s b m k h =
-    let e : b + (k + 1) ≡ b + k + 1 = omega arith in
-    rw (getD-part s b m k (omega arith), getD-part s b m (k + 1) h, e)
-
-u32-part : (s : Octets) (b m : ℕ) → 4 ≤ m → u32 (part s b m) 0 ≡ u32 s b
-unfolding u32
-u32-part s b m h = rw (u16-part s b m 0 (omega arith), u16-part s b m 2 (omega arith), add-zero)
-
 -- records cut from octets, and from as many of them as they need or more
 chop-take : (size n m : ℕ) (o : Octets) → chop size n (take (size * n + m) o) ≡ chop size n o
 unfolding chop
@@ -95,32 +87,32 @@ pub drop-part : (s : Octets) (at a n : ℕ) → drop a (part s at (a + n)) ≡ p
 unfolding part
 drop-part s at a n = drop-take a n (drop at s) ∙ rw (drop-drop a at s)
 
-behind : (s : Octets) (at n : ℕ) → drop 4 (part s at (4 + n)) ≡ take n (drop (at + 4) s)
-unfolding part
-behind s at n = drop-part s at 4 n
-
 -- the first table of a part
 table-in : (s : Octets) (at size m : ℕ) → tableBack size (part s at (4 + size * 32 + m)) ≡ tableAt s at size
 unfolding tableBack tableAt
 table-in s at size m =
     let e : 4 + size * 32 + m ≡ 4 + (size * 32 + m) = omega arith in
-    let d : drop 4 (part s at (4 + size * 32 + m)) ≡ take (size * 32 + m) (drop (at + 4) s) = rw e (behind s at (size * 32 + m)) in
+    let d : drop 4 (part s at (4 + size * 32 + m)) ≡ take (size * 32 + m) (drop (at + 4) s) = rw e (behind-word s at (size * 32 + m)) in
     rw (u32-part s at (4 + size * 32 + m) (omega arith), d, chop-take size 32 m (drop (at + 4) s))
 
+-- the tests of meanings and the tests of octets, sorted by table: the first one's, then those of the rest
 swap : (a t c r : Bool) → (a && t) && (c && r) ≡ (a && c) && (t && r)
 swap true true c r = refl
 swap true false true r = refl
 swap true false false r = refl
 swap false t c r = refl
 
-assoc : (a b c : Bool) → (a && b) && c ≡ a && (b && c)
+-- three tests joined, in brackets from the right
+pub assoc : (a b c : Bool) → (a && b) && c ≡ a && (b && c)
 assoc true b c = refl
 assoc false b c = refl
 
+-- where there are no tables, there is nothing to compare
 no-octets : (s : Octets) (at : ℕ) → same (part s at 0) [] ≡ true
 unfolding same part
 no-octets s at = refl
 
+-- records, support and free slots are the test of one table
 fine-is : (u : TableRule) (f : Hardware) (s : Octets) (at : ℕ)
     → (recordsOk u (entries (tableAt s at (u .size))) && supportOk u f (entries (tableAt s at (u .size)))) && freeZero s (u .size) (at + 4) 32 (u32 s at) ≡ tableFine u f s at
 unfolding tableFine

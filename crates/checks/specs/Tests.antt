@@ -9,9 +9,7 @@ use lib.ListN.{length, getD, drop, replicate}
 use lib.Seq.{take-add, drop-drop, drop-cons}
 use lib.Dec.{eqb}
 use lib.Pow.{low, high}
-use borrow.Author.Tests.{lt-ltb}
 use Rattle.model.specs.Octets.{Octets, allZero, bytes, le16, le32, same, u16, u32}
-use Rattle.model.specs.Proof.Tests.{both}
 use Rattle.model.specs.Proof.Tables.{byte-at, bytes-drop, bytes-take}
 use Rattle.octets.specs.Parts.{part}
 
@@ -21,19 +19,10 @@ one-test true b f g = sym (f refl)
 one-test false true f g = g refl
 one-test false false f g = refl
 
+-- a test and one that passes are the test alone
 pub and-on : (a : Bool) → a && true ≡ a
 and-on true = refl
 and-on false = refl
-
-pub and-off : (a : Bool) → a && false ≡ false
-and-off true = refl
-and-off false = refl
-
--- octets below 256, from what a slice is known to hold
-pub bytes-of : (o : Octets) → ((k : ℕ) → getD o k 0 < 256) → bytes o ≡ true
-unfolding bytes
-bytes-of [] h = refl
-bytes-of (x ∷ o) h = both (lt-ltb x 256 (h 0)) (bytes-of o (λ k. h (suc k)))
 
 -- lists compared in two parts
 pub same-append : (a b x y : Octets) → length a ≡ length x → same (a ++ b) (x ++ y) ≡ same a x && same b y
@@ -70,6 +59,7 @@ pub u16-lt : (o : Octets) (k : ℕ) → bytes o ≡ true → u16 o k < 65536
 unfolding u16
 u16-lt o k h = omega (arith, byte-at o k h, byte-at o (k + 1) h)
 
+-- a number of four octets is below 2^32
 pub u32-lt : (o : Octets) (k : ℕ) → bytes o ≡ true → u32 o k < 4294967296
 unfolding u32
 u32-lt o k h = omega (arith, u16-lt o k h, u16-lt o (k + 2) h)
@@ -78,6 +68,7 @@ u32-lt o k h = omega (arith, u16-lt o k h, u16-lt o (k + 2) h)
 cut : (n a m : ℕ) → n ≡ a + 256 * m → a < 256 → (n % 256 ≡ a) × (n / 256 ≡ m)
 cut n a m e h = let f : n ≡ m * 256 + a = omega arith in (rw f (low m 8 h), rw f (high m 8 h))
 
+-- a number made of two octets is laid out as those, the low one first
 two-octets : (n a b : ℕ) → n ≡ a + 256 * b → a < 256 → b < 256 → le16 n ≡ a ∷ b ∷ []
 unfolding le16
 two-octets n a b e h i =
@@ -85,6 +76,7 @@ two-octets n a b e h i =
     let y : b % 256 ≡ b = mod-eq-of-lt i in
     rw (x .0, x .1, y)
 
+-- the same, of four octets
 four-octets : (n a b c d : ℕ) → n ≡ a + 256 * b + 65536 * (c + 256 * d) → a < 256 → b < 256 → c < 256 → d < 256 → le32 n ≡ a ∷ b ∷ c ∷ d ∷ []
 unfolding le32
 four-octets n a b c d e h i j k =
@@ -98,12 +90,14 @@ four-octets n a b c d e h i j k =
     let m : d % 256 ≡ d = mod-eq-of-lt k in
     rw (x .0, y .0, f, g, m)
 
+-- two octets read as a number and laid out again are as they were
 pub le16-part : (s : Octets) (at : ℕ) → bytes s ≡ true → at + 2 ≤ length s → le16 (u16 s at) ≡ part s at 2
 unfolding u16 part
 le16-part s at h l =
     let a : at + 1 ≡ suc at = omega arith in
     rw (a, drop-cons s at 0 (omega arith), drop-cons s (suc at) 0 (omega arith)) (two-octets _ (getD s at 0) (getD s (suc at) 0) refl (byte-at s at h) (byte-at s (suc at) h))
 
+-- the same, of four octets
 pub le32-part : (s : Octets) (at : ℕ) → bytes s ≡ true → at + 4 ≤ length s → le32 (u32 s at) ≡ part s at 4
 unfolding u32 u16 part
 le32-part s at h l =

@@ -1,8 +1,7 @@
 -- The ways out of the dispatch, each as one law over plain variables.
 -- Assumes nothing.
-use Prim.Native.Nat.{ℕ, zero, suc, _+_, _≤_, _<_}
-use native.Mathlib.Omega.{arith}
-use mathlib.Core.Path.{_≡_, refl, sym, ap, _∙_}
+use Prim.Native.Nat.{ℕ, _+_, _≤_}
+use mathlib.Core.Path.{_≡_, refl, sym}
 use mathlib.Core.Bool.{Bool, true, false, _&&_, _||_}
 use mathlib.Core.List.{List, [], _∷_, _++_}
 use mathlib.Core.Option.{Option, none, some}
@@ -58,6 +57,7 @@ allTo : List ℕ → Bool
 allTo [] = true
 allTo (c ∷ cs) = toController (rule c) && allTo cs
 
+-- so any one of them has one
 member-to : (code : ℕ) (cs : List ℕ) → allTo cs ≡ true → member code cs ≡ true → toController (rule code) ≡ true
 unfolding allTo member
 member-to code [] a m = no-way (sym m)
@@ -67,15 +67,18 @@ member-to code (c ∷ cs) a m = let b = and-true (toController (rule c)) _ a in 
     go true e m t k = rw (equal code c e) t
     go false e m t k = k m
 
+-- so has every code of the four groups
 codes-to : (code : ℕ) → member code controllerCodes ≡ true → toController (rule code) ≡ true
 unfolding allTo toController rule find rows controllerCodes settingsCodes keyCodes deviceCodes informationCodes
 codes-to code m = member-to code controllerCodes refl m
 
+-- a code other than 1, 2 and 3 is not general
 general-none : (code : ℕ) → (code ≡ 1 → ⊥) → (code ≡ 2 → ⊥) → (code ≡ 3 → ⊥) → member code generalCodes ≡ false
 unfolding member generalCodes
 general-none code a b c = rw (ne-eqb code 1 a, ne-eqb code 2 b, ne-eqb code 3 c)
 
 module _ (s : Octets) (i code : ℕ) (ps d d′ : Octets) (r : Answer) (ok : stateOk s ≡ true) (big : 1024 ≤ length d) where
+  -- whichever rule of a command to a controller it is, an absent index is Invalid Index
   absent-by : presentAt s i ≡ false → (u : Option Rule) → rule code ≡ u → toController u ≡ true → dispatched s i code ps ≡ ended s (refused (byStatus i code) controllerAbsent)
   unfolding toController
   absent-by e none eu t = no-way (sym t)
@@ -103,15 +106,18 @@ unfolding settingsCodes
 settings-last code m a b c d e =
     member-last code _ (member-rest code _ _ (member-rest code _ _ (member-rest code _ _ (member-rest code _ _ (member-rest code _ _ m a) b) c) d) e)
 
+-- the same, of the keys: Unpair Device is left
 pub keys-last : (code : ℕ) → member code keyCodes ≡ true → (code ≡ 0x12 → ⊥) → (code ≡ 0x13 → ⊥) → (code ≡ 0x30 → ⊥) → code ≡ 0x1B
 unfolding keyCodes
 keys-last code m a b c = member-last code _ (member-rest code _ _ (member-rest code _ _ (member-rest code _ _ m a) b) c)
 
+-- the same, of UUIDs and devices: Remove Device is left
 pub devices-last : (code : ℕ) → member code deviceCodes ≡ true → (code ≡ 0x10 → ⊥) → (code ≡ 0x11 → ⊥) → (code ≡ 0x26 → ⊥) → (code ≡ 0x27 → ⊥) → (code ≡ 0x33 → ⊥) → code ≡ 0x34
 unfolding deviceCodes
 devices-last code m a b c d e =
     member-last code _ (member-rest code _ _ (member-rest code _ _ (member-rest code _ _ (member-rest code _ _ (member-rest code _ _ m a) b) c) d) e)
 
+-- the same, of information and name: Set Local Name is left
 pub information-last : (code : ℕ) → member code informationCodes ≡ true → (code ≡ 0x04 → ⊥) → code ≡ 0x0F
 unfolding informationCodes
 information-last code m a = member-last code _ (member-rest code _ _ m a)
@@ -124,86 +130,107 @@ information-left code m a b c =
 
 -- 4. The rules by code --------------------------------------------------------------------------------------------------------------------------
 
+-- Read Version is a general command
 pub rule-01 : rule 0x01 ≡ some (generalRule readVersion)
 unfolding rule find rows
 rule-01 = refl
 
+-- the same, of Read Commands
 pub rule-02 : rule 0x02 ≡ some (generalRule readCommands)
 unfolding rule find rows
 rule-02 = refl
 
+-- the same, of Read Indexes
 pub rule-03 : rule 0x03 ≡ some (generalRule readIndexes)
 unfolding rule find rows
 rule-03 = refl
 
+-- Read Controller Information is never Busy
 pub rule-04 : rule 0x04 ≡ some (immediate readInformation)
 unfolding rule find rows
 rule-04 = refl
 
+-- Set Powered can be Busy
 pub rule-05 : rule 0x05 ≡ some (radio setPowered)
 unfolding rule find rows
 rule-05 = refl
 
+-- the same, of Set Discoverable
 pub rule-06 : rule 0x06 ≡ some (radio setDiscoverable)
 unfolding rule find rows
 rule-06 = refl
 
+-- the same, of Set Connectable
 pub rule-07 : rule 0x07 ≡ some (radio setConnectable)
 unfolding rule find rows
 rule-07 = refl
 
+-- Set Bondable is never Busy: it is done "always at once"
 pub rule-09 : rule 0x09 ≡ some (immediate setBondable)
 unfolding rule find rows
 rule-09 = refl
 
+-- Set Low Energy can be Busy
 pub rule-0D : rule 0x0D ≡ some (radio setLowEnergy)
 unfolding rule find rows
 rule-0D = refl
 
+-- Set Local Name is never Busy
 pub rule-0F : rule 0x0F ≡ some (immediate setLocalName)
 unfolding rule find rows
 rule-0F = refl
 
+-- the same, of Add UUID
 pub rule-10 : rule 0x10 ≡ some (immediate addUuid)
 unfolding rule find rows
 rule-10 = refl
 
+-- the same, of Remove UUID
 pub rule-11 : rule 0x11 ≡ some (immediate removeUuid)
 unfolding rule find rows
 rule-11 = refl
 
+-- Load Link Keys is a key list, never Busy
 pub rule-12 : rule 0x12 ≡ some (immediate (loadKeys linkKeyList))
 unfolding rule find rows
 rule-12 = refl
 
+-- the same, of Load Long Term Keys
 pub rule-13 : rule 0x13 ≡ some (immediate (loadKeys longTermKeyList))
 unfolding rule find rows
 rule-13 = refl
 
+-- Unpair Device is never Busy
 pub rule-1B : rule 0x1B ≡ some (immediate unpairDevice)
 unfolding rule find rows
 rule-1B = refl
 
+-- the same, of Block Device
 pub rule-26 : rule 0x26 ≡ some (immediate blockDevice)
 unfolding rule find rows
 rule-26 = refl
 
+-- the same, of Unblock Device
 pub rule-27 : rule 0x27 ≡ some (immediate unblockDevice)
 unfolding rule find rows
 rule-27 = refl
 
+-- Set Static Address can be Busy, "house for 0x002B"
 pub rule-2B : rule 0x2B ≡ some (radio setStaticAddress)
 unfolding rule find rows
 rule-2B = refl
 
+-- Load Identity Resolving Keys is a key list, never Busy
 pub rule-30 : rule 0x30 ≡ some (immediate (loadKeys identityKeyList))
 unfolding rule find rows
 rule-30 = refl
 
+-- Add Device is never Busy
 pub rule-33 : rule 0x33 ≡ some (immediate addDevice)
 unfolding rule find rows
 rule-33 = refl
 
+-- the same, of Remove Device
 pub rule-34 : rule 0x34 ≡ some (immediate removeDevice)
 unfolding rule find rows
 rule-34 = refl

@@ -1,7 +1,6 @@
 -- The codes of the commands, in groups: which function serves a code.
-use Prim.Native.Nat.{ℕ, zero, suc, _+_, _≤_, _<_}
-use native.Mathlib.Omega.{arith}
-use mathlib.Core.Path.{_≡_, refl, sym, ap, _∙_}
+use Prim.Native.Nat.{ℕ, _+_}
+use mathlib.Core.Path.{_≡_, refl, sym, _∙_}
 use mathlib.Core.Bool.{Bool, true, false, _&&_, _||_, not}
 use mathlib.Core.List.{List, [], _∷_, _++_}
 use mathlib.Core.Option.{Option, none, some}
@@ -54,14 +53,7 @@ member-last code c e = go (eqb code c) refl e
     go true q f = equal code c q
     go false q f = no-way (sym f)
 
-pub member-here : (code c : ℕ) (cs : List ℕ) → code ≡ c → member code (c ∷ cs) ≡ true
-unfolding member
-member-here code c cs e = rw (eq-eqb code c e)
-
-pub member-next : (code c : ℕ) (cs : List ℕ) → (code ≡ c → ⊥) → member code (c ∷ cs) ≡ member code cs
-unfolding member
-member-next code c cs n = rw (ne-eqb code c n)
-
+-- three tests joined by or, from either end
 or-assoc : (a b c : Bool) → (a || b) || c ≡ a || (b || c)
 or-assoc true b c = refl
 or-assoc false b c = refl
@@ -72,9 +64,11 @@ unfolding member
 member-append code [] ys = refl
 member-append code (x ∷ xs) ys = rw (member-append code xs ys) (sym (or-assoc (eqb code x) (member code xs) (member code ys)))
 
+-- a code of two lists that is not of the first is of the second
 pub member-other : (code : ℕ) (xs ys : List ℕ) → member code (xs ++ ys) ≡ true → member code xs ≡ false → member code ys ≡ true
 member-other code xs ys e n = rw (member-append code xs ys, n) at e
 
+-- the empty rest of a list adds no code: or with false is the test itself
 pub or-nothing : (b : Bool) → b || false ≡ b
 or-nothing true = refl
 or-nothing false = refl

@@ -1,16 +1,14 @@
 -- The ways out of a call, each as one law over plain variables.
 -- Assumes nothing.
-use Prim.Native.Nat.{ℕ, zero, suc, _+_, _≤_, _<_}
-use native.Mathlib.Omega.{arith}
-use mathlib.Core.Path.{_≡_, refl, sym, ap, _∙_}
-use mathlib.Core.Bool.{Bool, true, false}
-use mathlib.Core.List.{List, [], _∷_}
-use lib.ListN.{length, drop}
+use Prim.Native.Nat.{ℕ, _≤_, _<_}
+use mathlib.Core.Path.{_≡_, refl}
+use mathlib.Core.Bool.{true, false}
+use lib.ListN.{drop}
 use Rattle.model.specs.Octets.{Octets, u16}
 use Rattle.model.specs.State.{controllerAt}
 use Rattle.model.specs.declared.Hardware.{Hardware}
 use Rattle.model.specs.Image.{image}
-use Rattle.model.specs.Hub.{Call, command, report, clock, plug, unplug, save, Outcome, finished, badPacket, noRoom, codeOf, indexOf, paramsOf, packetOk, answerOf, octetsOf, stateOf, clockOut, plugOut, unplugOut, unplugged}
+use Rattle.model.specs.Hub.{command, report, clock, plug, unplug, save, finished, badPacket, noRoom, codeOf, indexOf, packetOk, answerOf, octetsOf, stateOf, clockOut, plugOut, unplugOut, unplugged}
 use Rattle.model.specs.Layout.{decode}
 use Rattle.model.specs.Meanings.{stateOk, laidOut, meaning}
 use Rattle.replies.specs.Answers.{Gives}
@@ -27,13 +25,16 @@ small s d ok = ends-silent s d noRoom SmallBuffer ok refl refl refl refl
 
 -- 1. A command ----------------------------------------------------------------------------------------------------------------------------------
 
+-- 4 for "reply buffer under 1,024 octets"
 pub command-no-room : (s p d : Octets) (room : ℕ) → stateOk s ≡ true → room < 1024 → Gives (meaning s (command room p)) SmallBuffer d d s
 command-no-room s p d room ok l = rw (command-small s room p ok l) (small s d ok)
 
+-- 3 for "packet under 6 octets, or length field unequal to the octets after the header"
 pub command-no-packet : (s p d : Octets) (room : ℕ) → stateOk s ≡ true → 1024 ≤ room → packetOk p ≡ false → Gives (meaning s (command room p)) BadPacket d d s
 unfolding octetsOf stateOf answerOf
 command-no-packet s p d room ok l e = rw (command-bad s room p ok l e) (ends-silent s d badPacket BadPacket ok refl refl refl refl)
 
+-- else it comes to what the dispatch gives for its index, code and parameters
 pub command-done : (s p d d′ s′ : Octets) (room index code : ℕ) (r : Answer) → stateOk s ≡ true → 1024 ≤ room → packetOk p ≡ true → code ≡ u16 p 0 → index ≡ u16 p 2
     → Gives (dispatched s index code (drop 6 p)) r d d′ s′ → Gives (meaning s (command room p)) r d d′ s′
 unfolding codeOf indexOf
@@ -41,37 +42,47 @@ command-done s p d d′ s′ room index code r ok l e ec ei k = rw (command-whol
 
 -- 2. The other calls ----------------------------------------------------------------------------------------------------------------------------
 
+-- a report with too short a reply buffer: 4
 pub report-no-room : (s d : Octets) (room i status : ℕ) → stateOk s ≡ true → room < 1024 → Gives (meaning s (report room i status)) SmallBuffer d d s
 report-no-room s d room i status ok l = rw (report-small s room i status ok l) (small s d ok)
 
+-- with room, it comes to what is done with the command under way at that index, if there is one
 pub report-done : (s d d′ s′ : Octets) (room i status : ℕ) (r : Answer) → stateOk s ≡ true → 1024 ≤ room → Gives (reported s i status) r d d′ s′
     → Gives (meaning s (report room i status)) r d d′ s′
 report-done s d d′ s′ room i status r ok l k = rw (report-whole s room i status ok l) k
 
+-- a clock reading with too short a reply buffer: 4
 pub clock-no-room : (s d : Octets) (room reading : ℕ) → stateOk s ≡ true → room < 1024 → Gives (meaning s (clock room reading)) SmallBuffer d d s
 clock-no-room s d room reading ok l = rw (clock-small s room reading ok l) (small s d ok)
 
+-- with room, it comes to the model's word on the reading, with the open commands as they were
 pub clock-done : (s d d′ s′ : Octets) (room reading : ℕ) (r : Answer) → stateOk s ≡ true → 1024 ≤ room → Gives (ended s (clockOut (decode s .plain) reading)) r d d′ s′
     → Gives (meaning s (clock room reading)) r d d′ s′
 clock-done s d d′ s′ room reading r ok l k = rw (clock-whole s room reading ok l) k
 
+-- plug with too short a reply buffer: 4
 pub plug-no-room : (s d : Octets) (room i : ℕ) (f : Hardware) → stateOk s ≡ true → room < 1024 → Gives (meaning s (plug room i f)) SmallBuffer d d s
 plug-no-room s d room i f ok l = rw (plug-small s room i f ok l) (small s d ok)
 
+-- with room, it comes to the model's word on the hardware and what stands at the index, with the open commands as they were
 pub plug-done : (s d d′ s′ : Octets) (room i : ℕ) (f : Hardware) (r : Answer) → stateOk s ≡ true → 1024 ≤ room
     → Gives (ended s (plugOut (decode s .plain) i f (controllerAt (decode s .plain) i))) r d d′ s′ → Gives (meaning s (plug room i f)) r d d′ s′
 plug-done s d d′ s′ room i f r ok l k = rw (plug-whole s room i f ok l) k
 
+-- unplug with too short a reply buffer: 4
 pub unplug-no-room : (s d : Octets) (room i : ℕ) → stateOk s ≡ true → room < 1024 → Gives (meaning s (unplug room i)) SmallBuffer d d s
 unplug-no-room s d room i ok l = rw (unplug-small s room i ok l) (small s d ok)
 
+-- with room, it comes to the model's word on what stands at the index, behind the reply owed to a command under way there
 pub unplug-done : (s d d′ s′ : Octets) (room i : ℕ) (r : Answer) → stateOk s ≡ true → 1024 ≤ room
     → Gives (laidOut (unplugged (decode s) i (unplugOut (decode s .plain) i (controllerAt (decode s .plain) i)))) r d d′ s′ → Gives (meaning s (unplug room i)) r d d′ s′
 unplug-done s d d′ s′ room i r ok l k = rw (unplug-whole s room i ok l) k
 
+-- 4 for "save: under 16,014"
 pub save-no-room : (s d : Octets) (room : ℕ) → stateOk s ≡ true → room < 16014 → Gives (meaning s (save room)) SmallBuffer d d s
 save-no-room s d room ok l = rw (save-small s room ok l) (small s d ok)
 
+-- with room, it comes to the image of the hub, with the state as it was
 pub save-done : (s d d′ s′ : Octets) (room : ℕ) (r : Answer) → stateOk s ≡ true → 16014 ≤ room
     → Gives (ended s (finished (image (decode s .plain)) (decode s .plain))) r d d′ s′ → Gives (meaning s (save room)) r d d′ s′
 save-done s d d′ s′ room r ok l k = rw (save-whole s room ok l) k

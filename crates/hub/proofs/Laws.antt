@@ -1,16 +1,15 @@
 -- Laws that the proofs of this crate cite, over plain lists and numbers.
 -- Assumes nothing.
-use Prim.Native.Nat.{ℕ, zero, suc, _+_, _-_, _*_, _≤_, _<_}
+use Prim.Native.Nat.{_-_, _≤_, _<_}
 use native.Mathlib.Omega.{arith}
-use mathlib.Core.Path.{_≡_, refl, sym, ap, _∙_}
-use mathlib.Core.Bool.{Bool, true, false, _&&_}
-use mathlib.Core.List.{List, [], _∷_}
+use mathlib.Core.Path.{_≡_}
+use mathlib.Core.Bool.{true, false}
 use lib.ListN.{length, take, drop, length-drop}
 use lib.Seq.{take-all}
 use lib.Dec.{eqb, leb, leb→le}
 use borrow.Author.Tests.{le-leb, lt-leb}
 use Rattle.model.specs.Octets.{Octets, u16}
-use Rattle.model.specs.Hub.{packetOk, paramsOf}
+use Rattle.model.specs.Hub.{packetOk}
 use Rattle.model.specs.Proof.Tests.{and-true}
 use Rattle.replies.specs.Answers.{numberOf}
 use Rattle.replies.specs.declared.Answer.{Answer}

@@ -1,11 +1,10 @@
 -- What an exported function returns and leaves.
-use Prim.Native.Nat.{ℕ, zero, suc, _+_, _*_, _≤_, _<_}
+use Prim.Native.Nat.{ℕ, _+_, _*_, _≤_}
 use native.Mathlib.Omega.{arith}
-use mathlib.Core.Path.{_≡_, refl, sym, ap, _∙_}
-use mathlib.Core.Bool.{Bool, true, false}
-use mathlib.Core.List.{List, [], _∷_, _++_}
+use mathlib.Core.Path.{_≡_, refl, _∙_}
+use mathlib.Core.Bool.{true, false}
+use mathlib.Core.List.{_++_}
 use lib.ListN.{length, drop}
-use lib.Dec.{leb}
 use Rattle.model.specs.Octets.{Octets}
 use Rattle.model.specs.Hub.{Call, Result}
 use Rattle.model.specs.Meanings.{stateOk, badState, meaning}

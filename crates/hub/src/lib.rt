@@ -4,7 +4,7 @@ ghost use Prim.Native.Nat.{_≤_};
 ghost use lib.ListN.{length};
 ghost use Rattle.model.specs.Hub as M;
 ghost use Rattle.model.specs.Meanings.{meaning, hubCommand, hubReport, hubClock, hubPlug, hubUnplug, hubSave, hubLoad};
-ghost use Rattle.replies.specs.Answers.{Gives, countOf, numberOf};
+ghost use Rattle.replies.specs.Answers.{Gives, countOf};
 ghost use Rattle.hub.specs.Entries.{packed, Returns};
 use replies::Answer;
 

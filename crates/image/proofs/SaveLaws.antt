@@ -1,29 +1,28 @@
 -- Laws of saving, over plain lists and numbers, in the form in which the code leaves them: what is left to write, written, gives the whole image.
-use mathlib.Core.Path.{_≡_, refl, ap, sym, _∙_}
+use mathlib.Core.Path.{_≡_, refl, sym, _∙_}
 use Prim.Native.Nat.{ℕ, zero, suc, _+_, _*_, _-_, _≤_, _<_}
 use native.Mathlib.Omega.{arith}
-use native.Mathlib.Nat.{add-zero, mul-suc, mul-le-mul-left, sub-zero}
+use native.Mathlib.Nat.{mul-suc, mul-le-mul-left}
 use mathlib.Core.List.{List, [], _∷_, _++_, map, append-assoc}
 use lib.ListN.{length, getD, take, drop, length-append, drop-of-length-le, take-append-drop}
 use lib.Seq.{drop-cons, length-take-le}
 use lib.Dec.{eqb, lit≤}
 use mathlib.Core.Bool.{true, false}
-use mathlib.Core.Option.{none, some}
-use Rattle.model.specs.declared.Hardware.{Hardware}
+use mathlib.Core.Option.{none}
 use Rattle.model.specs.declared.Settings.{Settings}
 use Rattle.model.specs.Octets.{Octets, be16, be32, joined}
-use Rattle.model.specs.State.{Controller, PlainHub, Table, hardwareOk, settingsOf, tableOf}
+use Rattle.model.specs.State.{Controller, Table, hardwareOk, settingsOf, tableOf}
 use Rattle.model.specs.Hub.{finished}
-use Rattle.model.specs.Layout.{controllersIn, decode, encode}
+use Rattle.model.specs.Layout.{controllersIn, decode}
 use Rattle.model.specs.Meanings.{stateOk}
-use Rattle.model.specs.Tables.{TableRule, blockedRule, deviceRule, entries, identityKeyRule, linkKeyRule, longTermKeyRule, tableRules, uuidRule}
+use Rattle.model.specs.Tables.{blockedRule, deviceRule, entries, identityKeyRule, linkKeyRule, longTermKeyRule, tableRules, uuidRule}
 use Rattle.model.specs.Image.{controllerImage, controllerImages, image, radioOk, tableImage}
-use Rattle.model.specs.WellFormed.{plainOk, tableOk, tablesOk, wellFormed}
-use Rattle.model.specs.Proof.Parts.{controller-fit}
+use Rattle.model.specs.WellFormed.{plainOk, wellFormed}
+use Rattle.model.specs.Proof.Parts.{controller-fit, tables-many}
 use Rattle.model.specs.Tables.{ruleAt}
 use Rattle.model.specs.Proof.RoundTrip.{image-most}
 use Rattle.model.specs.Proof.Demand3.{state-back, state-well}
-use Rattle.model.specs.Proof.Tests.{and-true, equal, no-way}
+use Rattle.model.specs.Proof.Tests.{and-true, equal}
 use Rattle.octets.specs.Parts.{part, placeAt, writeAt, length-part, length-writeAt, write-left, write-right, write-split}
 use Rattle.table.specs.Slots.{InUse, NextUsed, tableAt}
 use Rattle.table.specs.Laws.{length-table, slot-room}
@@ -46,6 +45,7 @@ pub write-first : (d : Octets) (p : ℕ) (x : Octets) (xs : List Octets) (n : �
 unfolding joined
 write-first d p x xs n e = rw (← e) (write-split d p x (joined xs))
 
+-- the place behind the run, counted from behind the first
 pub length-first : (p : ℕ) (x : Octets) (xs : List Octets) (n : ℕ) → length x ≡ n → p + length (joined (x ∷ xs)) ≡ p + n + length (joined xs)
 unfolding joined
 length-first p x xs n e = omega (arith, length-append x (joined xs))
@@ -55,6 +55,7 @@ pub write-none : (d : Octets) (p : ℕ) → writeAt d p (joined []) ≡ d
 unfolding joined writeAt
 write-none d p = refl
 
+-- so the place reached is the place behind the run
 pub goes-none : (p n : ℕ) → p + length (joined []) ≡ n → p ≡ n
 unfolding joined
 goes-none p n e = omega arith
@@ -71,12 +72,14 @@ pub record Saving (s : Octets) (at size : ℕ) (d₀ : Octets) (p₀ : ℕ) (d :
   pub goes : p + length (joined (entries (drop k (tableAt s at size)))) ≡ p₀ + length (joined (entries (tableAt s at size)))
 
 module _ (s : Octets) (at size : ℕ) (d₀ : Octets) (p₀ : ℕ) where
+  -- the walk comes to the first slot in use: nothing is written, and no record lies before it
   pub saving-first : (r : ℕ) → NextUsed s at size 0 r → r ≤ 32 → Saving s at size d₀ p₀ d₀ p₀ r
   saving-first r u l =
       let f : entries (tableAt s at size) ≡ entries (drop r (tableAt s at size)) = next-entries s at size 0 r u in
       let m : size * (32 - r) ≤ size * 32 = mul-le-mul-left size (omega arith) in
       record { long = refl; room = omega arith; left = rw (← f); goes = rw (← f) }
 
+  -- the record in slot k is written, and the walk goes on to the next slot in use
   pub saving-turn : (d : Octets) (p k : ℕ) (d′ : Octets) (r : ℕ) → at + (4 + size * 32) ≤ length s → k < 32 → InUse s at size k → d′ ≡ writeAt d p (part s (at + (4 + size * k)) size) → NextUsed s at size (k + 1) r → k + 1 ≤ r → r ≤ 32
       → Saving s at size d₀ p₀ d p k → Saving s at size d₀ p₀ d′ (p + size) r
   saving-turn d p k d′ r h l u w v lo hi i =
@@ -111,13 +114,13 @@ module _ (s : Octets) (at size : ℕ) (d₀ : Octets) (p₀ : ℕ) where
 
 -- 2. The tables of a controller -----------------------------------------------------------------------------------------------------------------
 
--- the most that the images of the tables from k on take
-unfoldable pub mostFrom : ℕ → ℕ
-mostFrom k = placeAt (545 ∷ 801 ∷ 1153 ∷ 737 ∷ 225 ∷ 257 ∷ []) k
+-- the most that the images of the tables before k take
+unfoldable pub mostBefore : ℕ → ℕ
+mostBefore k = placeAt (545 ∷ 801 ∷ 1153 ∷ 737 ∷ 225 ∷ 257 ∷ []) k
 
--- the room that the tables before k leave is that of table k, and that after it
-pub most-step : (k : ℕ) → k < 6 → mostFrom (k + 1) ≡ mostFrom k + (1 + ruleAt k .size * 32)
-unfolding mostFrom placeAt ruleAt tableRules uuidRule linkKeyRule longTermKeyRule identityKeyRule blockedRule deviceRule
+-- table k takes a count octet and at most 32 records more
+pub most-step : (k : ℕ) → k < 6 → mostBefore (k + 1) ≡ mostBefore k + (1 + ruleAt k .size * 32)
+unfolding mostBefore placeAt ruleAt tableRules uuidRule linkKeyRule longTermKeyRule identityKeyRule blockedRule deviceRule
 most-step zero l = refl
 most-step (suc zero) l = refl
 most-step (suc (suc zero)) l = refl
@@ -126,8 +129,9 @@ most-step (suc (suc (suc (suc zero)))) l = refl
 most-step (suc (suc (suc (suc (suc zero))))) l = refl
 most-step (suc (suc (suc (suc (suc (suc k)))))) l = absurd (omega arith)
 
-pub most-below : (k : ℕ) → k ≤ 6 → mostFrom k ≤ 3718
-unfolding mostFrom placeAt
+-- six full tables take 3,718 octets, and fewer take no more
+pub most-below : (k : ℕ) → k ≤ 6 → mostBefore k ≤ 3718
+unfolding mostBefore placeAt
 most-below zero l = lit≤ tt
 most-below (suc zero) l = lit≤ tt
 most-below (suc (suc zero)) l = lit≤ tt
@@ -137,33 +141,29 @@ most-below (suc (suc (suc (suc (suc zero))))) l = lit≤ tt
 most-below (suc (suc (suc (suc (suc (suc zero)))))) l = lit≤ tt
 most-below (suc (suc (suc (suc (suc (suc (suc k))))))) l = absurd (omega arith)
 
--- a valid controller has six tables
-tables-six : (f : Hardware) (us : List TableRule) (ts : List Table) → tablesOk f us ts ≡ true → length ts ≡ length us
-unfolding tablesOk
-tables-six f [] [] e = refl
-tables-six f [] (t ∷ ts) e = no-way (sym e)
-tables-six f (u ∷ us) [] e = no-way (sym e)
-tables-six f (u ∷ us) (t ∷ ts) e = ap suc (tables-six f us ts (and-true (tableOk u f t) _ e .1))
-
+-- so has the controller at a present index
 pub six-tables : (s : Octets) (i : ℕ) → Ready s i → length (controllerOf s i .host .tables) ≡ 6
 unfolding tableRules
-six-tables s i r = tables-six (controllerOf s i .radio .hardware) tableRules (controllerOf s i .host .tables) (controller-fit (controllerOf s i) (controller-fine s i r) .tables)
+six-tables s i r = tables-many (controllerOf s i .radio .hardware) tableRules (controllerOf s i .host .tables) (controller-fit (controllerOf s i) (controller-fine s i r) .tables)
 
 -- the images of the tables from k on are still to be written, from the place p on
 pub record SavingTables (s : Octets) (i : ℕ) (d₀ : Octets) (p₀ : ℕ) (d : Octets) (p k : ℕ) : Type 0 where
   pub long : length d ≡ length d₀
-  pub room : p ≤ p₀ + mostFrom k
+  pub room : p ≤ p₀ + mostBefore k
   pub left : writeAt d p (joined (map tableImage (drop k (controllerOf s i .host .tables)))) ≡ writeAt d₀ p₀ (joined (map tableImage (controllerOf s i .host .tables)))
   pub goes : p + length (joined (map tableImage (drop k (controllerOf s i .host .tables)))) ≡ p₀ + length (joined (map tableImage (controllerOf s i .host .tables)))
 
 module _ (s : Octets) (i : ℕ) (ready : Ready s i) (d₀ : Octets) (p₀ : ℕ) where
+  -- at first all six are left
   pub tables-first : SavingTables s i d₀ p₀ d₀ p₀ 0
-  unfolding mostFrom placeAt
+  unfolding mostBefore placeAt
   tables-first = record { long = refl; room = omega arith; left = refl; goes = refl }
 
+  -- table k finds room in the 3,718 octets, even if it is full
   pub tables-room : (d : Octets) (p k : ℕ) → k < 6 → SavingTables s i d₀ p₀ d p k → p + (1 + ruleAt k .size * 32) ≤ p₀ + 3718
   tables-room d p k l i = omega (arith, i .room, most-step k l, most-below (k + 1) (omega arith))
 
+  -- the image of table k is written, and the tables after it are left
   pub tables-turn : (d : Octets) (p k : ℕ) (d′ : Octets) (at size r : ℕ) → k < 6 → at ≡ tablePlace i k → size ≡ ruleAt k .size
       → r ≡ p + length (tableImage (tableAt s at size)) → r ≤ p + (1 + size * 32) → d′ ≡ writeAt d p (tableImage (tableAt s at size))
       → SavingTables s i d₀ p₀ d p k → SavingTables s i d₀ p₀ d′ r (k + 1)
@@ -184,6 +184,7 @@ module _ (s : Octets) (i : ℕ) (ready : Ready s i) (d₀ : Octets) (p₀ : ℕ)
         goes = rw g (sym (length-first p (tableImage t) xs (length (tableImage t)) refl)) ∙ (rw f at (v .goes));
       }
 
+  -- none is left: the images of all six are written, in 3,718 octets at most
   pub tables-last : (d : Octets) (p k : ℕ) → k ≤ 6 → 6 ≤ k → SavingTables s i d₀ p₀ d p k
       → (p ≡ p₀ + length (joined (map tableImage (controllerOf s i .host .tables)))) × (p ≤ p₀ + 3718) × (d ≡ writeAt d₀ p₀ (joined (map tableImage (controllerOf s i .host .tables))))
   tables-last d p k u l v =
@@ -196,6 +197,7 @@ module _ (s : Octets) (i : ℕ) (ready : Ready s i) (d₀ : Octets) (p₀ : ℕ)
 pub then : (d : Octets) (p : ℕ) (a b : Octets) (q : ℕ) → q ≡ p + length a → writeAt (writeAt d p a) q b ≡ writeAt d p (a ++ b)
 then d p a b q e = rw e (sym (write-split d p a b))
 
+-- version 1, manufacturer 2, supported 4, flags 4: the numbers have 11 octets
 pub length-numbers : (m : Settings) → length (numbersImage m) ≡ 11
 unfolding numbersImage be16 be32
 length-numbers m = refl
@@ -235,6 +237,7 @@ pub length-fixed : (i : ℕ) (m : Settings) → length (m .radio .hardware .publ
 unfolding fixedImage
 length-fixed i m a b = simp length-append (omega (arith, length-numbers m))
 
+-- the fixed part, the name and the tables, written one behind the other, are the controller's image
 pub controller-written : (s : Octets) (i : ℕ) (m : Settings) (d d1 d2 d3 : Octets) (p np r : ℕ) → Ready s i → m ≡ settingsOf (controllerOf s i) → d1 ≡ writeAt d p (fixedImage i m)
     → np ≡ placeOf i 4 → d2 ≡ writeAt d1 (p + 24) (part s np 260)
     → r ≡ p + 284 + length (joined (map tableImage (controllerOf s i .host .tables))) → d3 ≡ writeAt d2 (p + 284) (joined (map tableImage (controllerOf s i .host .tables)))
@@ -276,9 +279,11 @@ unfolding decode controllersIn
 four-slots s = refl
 
 module _ (s : Octets) (i : ℕ) (l : i < 4) where
+  -- the slots from index i on: that of i, then the others
   slot-here : drop i (decode s .plain .controllers) ≡ getD (decode s .plain .controllers) i none ∷ drop (i + 1) (decode s .plain .controllers)
   slot-here = let n : suc i ≡ i + 1 = omega arith in rw (← n) (drop-cons (decode s .plain .controllers) i none (rw (four-slots s) l))
 
+  -- the next index, as the model counts on and as the code does
   next-index : suc i ≡ i + 1
   next-index = omega arith
 
@@ -287,14 +292,17 @@ module _ (s : Octets) (i : ℕ) (l : i < 4) where
   unfolding imagesFrom controllerImages
   images-present e = rw (slot-here, present-slot s i e, next-index)
 
+  -- one without has no image
   images-absent : presentAt s i ≡ false → imagesFrom s i ≡ imagesFrom s (i + 1)
   unfolding imagesFrom controllerImages
   images-absent e = rw (slot-here, absent-slot s i l e, ← next-index)
 
+-- at first no controller is written, and all are left, from behind the six octets of the head
 pub all-first : (s d₀ : Octets) → SavingAll s d₀ d₀ 6 0 0
 all-first s d₀ = record { long = refl; room = omega arith; few = omega arith; left = refl; goes = refl; counts = omega arith }
 
 module _ (s d₀ d : Octets) (p n i : ℕ) (l : i < 4) (v : SavingAll s d₀ d p n i) where
+  -- a controller stands there: its image is written, and it is counted
   pub all-present : (d′ : Octets) (r : ℕ) → presentAt s i ≡ true → r ≡ p + length (controllerImage i (controllerOf s i)) → r ≤ p + 4002 → d′ ≡ writeAt d p (controllerImage i (controllerOf s i))
       → SavingAll s d₀ d′ r (n + 1) (i + 1)
   all-present d′ r e g h w =
@@ -312,6 +320,7 @@ module _ (s d₀ d : Octets) (p n i : ℕ) (l : i < 4) (v : SavingAll s d₀ d p
         counts = omega arith;
       }
 
+  -- none stands there: nothing is written or counted
   pub all-absent : presentAt s i ≡ false → SavingAll s d₀ d p n (i + 1)
   all-absent e =
       let f : imagesFrom s i ≡ imagesFrom s (i + 1) = images-absent s i l e in
@@ -339,6 +348,7 @@ pub plain-fine : (s : Octets) → stateOk s ≡ true → plainOk (decode s .plai
 unfolding wellFormed
 plain-fine s ok = and-true (plainOk (decode s .plain)) _ (state-well s ok) .0
 
+-- the image is as long as the place reached: the head of six octets, and the controllers behind it
 length-image : (s : Octets) (p : ℕ) → p ≡ 6 + length (joined (imagesFrom s 0)) → length (image (decode s .plain)) ≡ p
 unfolding image imagesFrom be32
 length-image s p g = omega arith

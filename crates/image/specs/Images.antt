@@ -1,7 +1,7 @@
 -- The parts of a controller's image that the contracts cite, in the order in which they lie.
 use Prim.Native.Nat.{ℕ, _+_}
-use mathlib.Core.Path.{_≡_, refl}
-use mathlib.Core.List.{List, [], _∷_, _++_, map, append-assoc}
+use mathlib.Core.Path.{_≡_}
+use mathlib.Core.List.{_∷_, _++_, map, append-assoc}
 use Rattle.model.specs.declared.Settings.{Settings}
 use Rattle.model.specs.Octets.{Octets, be16, be32, joined}
 use Rattle.model.specs.State.{Controller, flag, settingsOf}

@@ -38,10 +38,12 @@ pub uuids-fit : (i place : ℕ) → i < 4 → place ≡ tablePlace i 0 → place
 unfolding ruleAt tableRules uuidRule
 uuids-fit i place l e = rw e (table-fits i 0 l (lit< tt))
 
+-- and what stands there is the controller's table of UUIDs
 uuids-at : (s : Octets) (i : ℕ) → Ready s i → tableAt s (tablePlace i 0) 17 ≡ tableOf (controllerOf s i .host) 0
 unfolding ruleAt tableRules uuidRule
 uuids-at s i g = table-at s i g 0 (lit< tt)
 
+-- version 1, manufacturer 2, supported 4, current 4, class 3: the head has 14 octets
 length-head : (f : Hardware) (w hints : ℕ) → length (informationHead f w hints) ≡ 14
 unfolding informationHead le16 le32
 length-head f w hints = refl
@@ -52,6 +54,7 @@ joined : (c : Controller) (hints : ℕ) → hints ≡ joinedByOr 16 (entries (ta
 unfolding informationHead informationOf classOf
 joined c hints e = rw e (simp append-assoc)
 
+-- address, head and name, written one behind the other, fill the 280 octets with what is told of the controller
 pub information-put : (s : Octets) (i : ℕ) (d d₁ d₂ d₃ : Octets) (m : Settings) (f : Hardware) (w place hints name : ℕ) (head a : Octets) → Ready s i → length d ≡ 280
     → m ≡ settingsOf (controllerOf s i) → f ≡ controllerOf s i .radio .hardware → w ≡ currentSettings m → place ≡ tablePlace i 0 → hints ≡ joinedByOr 16 (entries (tableAt s place 17))
     → head ≡ informationHead f w hints → a ≡ f .publicAddress → 6 ≡ length a → name ≡ placeOf i 4
@@ -75,22 +78,27 @@ put-back : (s : Octets) (i : ℕ) → Ready s i → s ≡ encode (putController 
 unfolding putController withController withHost
 put-back s i g = state-back s (g .ok) ∙ rw (← present-slot s i (g .here), set-getD)
 
+-- "0x0004 [0]": without parameters the length is right
 size-true : (ps : Octets) → length ps ≡ 0 → readInformation .size ps ≡ true
 unfolding readInformation sized
 size-true ps e = eq-eqb (length ps) 0 e
 
+-- and with any it is wrong
 size-false : (ps : Octets) → (length ps ≡ 0 → ⊥) → readInformation .size ps ≡ false
 unfolding readInformation sized
 size-false ps e = ne-eqb (length ps) 0 e
 
+-- it returns the information, has no events, and leaves the host part as it was
 act-is : (i : ℕ) (c : Controller) (ps : Octets) → readInformation .act i c ps ≡ done (informationOf c) [] (c .host)
 unfolding readInformation informationOf
 act-is i c ps = refl
 
 module _ (s : Octets) (i : ℕ) (ps d d′ : Octets) (r : Answer) (g : Ready s i) (big : 1024 ≤ length d) where
+  -- with parameters: Invalid Parameters
   pub information-length : (length ps ≡ 0 → ⊥) → r ≡ Refused 9 → d′ ≡ writeAt d 0 (commandStatus i 4 0x0D) → Gives (served s i 4 ps readInformation) r d d′ s
   information-length e n w = served-length s i 4 ps readInformation d d′ r g big (size-false ps e) n w
 
+  -- without: Command Complete with the 280 octets, and the state as it was
   pub information-done : length ps ≡ 0 → (body : Octets) → 280 ≡ length body → body ≡ informationOf (controllerOf s i) → r ≡ Done 289 → d′ ≡ writeAt d 0 (commandComplete i 4 0 body)
       → Gives (served s i 4 ps readInformation) r d d′ s
   information-done e body n b er w =

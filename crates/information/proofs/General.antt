@@ -24,20 +24,23 @@ use Rattle.replies.specs.Answers.{Gives}
 use Rattle.replies.specs.declared.Answer.{Answer}
 use Rattle.replies.specs.declared.Answer.the-variants.{Done, Refused}
 use Rattle.outcomes.specs.Outcomes.{general}
-use Rattle.outcomes.specs.Endings.{ends-refused, ends-done, length-complete}
-use Rattle.replies.proofs.Laws.{length-le16}
+use Rattle.outcomes.specs.Endings.{ends-refused, ends-done}
 use Rattle.information.specs.General.{Reply, listed}
+use Rattle.model.specs.Proof.Room.{length-complete, length-le16}
 
 -- 1. The two checks, and done -----------------------------------------------------------------------------------------------------------------
 
+-- the model refuses an index other than 0xFFFF with Invalid Index
 out-index : (p : PlainHub) (i code : ℕ) (ps : Octets) (f : PlainHub → Octets) → (i ≡ 65535 → ⊥) → generalOut p i code ps f ≡ refused (byStatus i code) indexNotNone
 unfolding generalOut
 out-index p i code ps f e = rw (ne-eqb i 65535 e, generalOut)
 
+-- then it refuses any parameters with Invalid Parameters
 out-length : (p : PlainHub) (i code : ℕ) (ps : Octets) (f : PlainHub → Octets) → i ≡ 65535 → (length ps ≡ 0 → ⊥) → generalOut p i code ps f ≡ refused (byStatus i code) lengthWrong
 unfolding generalOut
 out-length p i code ps f e l = rw (eq-eqb i 65535 e, generalOut, ne-eqb (length ps) 0 l)
 
+-- else the command is done, and the hub stays as it was
 out-done : (p : PlainHub) (i code : ℕ) (ps : Octets) (f : PlainHub → Octets) → i ≡ 65535 → length ps ≡ 0 → generalOut p i code ps f ≡ finished (commandComplete i code 0 (f p)) p
 unfolding generalOut
 out-done p i code ps f e l = rw (eq-eqb i 65535 e, generalOut, eq-eqb (length ps) 0 l)
@@ -63,21 +66,26 @@ module _ (i code : ℕ) (ps d d′ : Octets) (r : Answer) (s : Octets) (f : Plai
 
 -- the same, whatever the state and what the command returns of it
 module _ (i code : ℕ) (ps body d d′ : Octets) (r : Answer) (big : 1024 ≤ length d) where
+  -- an index other than 0xFFFF: Invalid Index
   pub reply-index : (i ≡ 65535 → ⊥) → r ≡ Refused 9 → d′ ≡ writeAt d 0 (commandStatus i code 0x11) → Reply i code ps body r d d′
   reply-index e n w = record { gives = λ s f ok g. general-index i code ps d d′ r s f ok big e n w }
 
+  -- parameters, where there are to be none: Invalid Parameters
   pub reply-length : i ≡ 65535 → (length ps ≡ 0 → ⊥) → r ≡ Refused 9 → d′ ≡ writeAt d 0 (commandStatus i code 0x0D) → Reply i code ps body r d d′
   reply-length e l n w = record { gives = λ s f ok g. general-length i code ps d d′ r s f ok big e l n w }
 
+  -- neither: Command Complete with the body
   pub reply-done : i ≡ 65535 → length ps ≡ 0 → length body ≤ 1000 → r ≡ Done (9 + length body) → d′ ≡ writeAt d 0 (commandComplete i code 0 body) → Reply i code ps body r d d′
   reply-done e l short n w = record { gives = λ s f ok g. general-done i code ps d d′ r s f ok big e l body short g n w }
 
 -- 2. Constant octets ----------------------------------------------------------------------------------------------------------------------------
 
+-- "version 1, revision 10", the revision in two octets
 pub version-is : (p : PlainHub) → readVersion p ≡ 1 ∷ 10 ∷ 0 ∷ []
 unfolding readVersion le16
 version-is p = refl
 
+-- "counts, then codes and events, each ascending": 19 codes and 10 events
 pub commands-is : (p : PlainHub) → readCommands p
     ≡ 19 ∷ 0 ∷ 10 ∷ 0
     ∷ 0x03 ∷ 0 ∷ 0x04 ∷ 0 ∷ 0x05 ∷ 0 ∷ 0x06 ∷ 0 ∷ 0x07 ∷ 0 ∷ 0x09 ∷ 0 ∷ 0x0D ∷ 0 ∷ 0x0F ∷ 0 ∷ 0x10 ∷ 0 ∷ 0x11 ∷ 0
@@ -93,11 +101,13 @@ one : ℕ → Option Controller → List ℕ
 one i none = []
 one i (some c) = i ∷ []
 
+-- the first index is listed if it holds a controller, then those after it
 from-step : (i : ℕ) (x : Option Controller) (cs : List (Option Controller)) → presentFrom i (x ∷ cs) ≡ one i x ++ presentFrom (suc i) cs
 unfolding presentFrom one
 from-step i none cs = refl
 from-step i (some c) cs = refl
 
+-- all four indexes, ascending
 from-four : (a b c d : Option Controller) → presentFrom 0 (a ∷ b ∷ c ∷ d ∷ []) ≡ one 0 a ++ (one 1 b ++ (one 2 c ++ (one 3 d ++ [])))
 unfolding presentFrom
 from-four a b c d = rw (from-step 0 a (b ∷ c ∷ d ∷ []), from-step 1 b (c ∷ d ∷ []), from-step 2 c (d ∷ []), from-step 3 d [])
@@ -107,10 +117,12 @@ listed-present : (s : Octets) (i : ℕ) → presentAt s i ≡ true → listed s 
 unfolding listed
 listed-present s i e = rw (e, listed)
 
+-- an index without a controller is not listed
 listed-absent : (s : Octets) (i : ℕ) → presentAt s i ≡ false → listed s i ≡ []
 unfolding listed
 listed-absent s i e = rw (e, listed)
 
+-- the code and the model list an index alike
 listed-is : (s : Octets) (i : ℕ) → i < 4 → listed s i ≡ one i (getD (decode s .plain .controllers) i none)
 unfolding one
 listed-is s i l = go (presentAt s i) refl
@@ -119,11 +131,13 @@ listed-is s i l = go (presentAt s i) refl
     go true e = rw (listed-present s i e, present-slot s i e)
     go false e = rw (listed-absent s i e, absent-slot s i l e)
 
+-- two lists of numbers, written as octets, stand one behind the other
 words-append : (a b : List ℕ) → words (a ++ b) ≡ words a ++ words b
 unfolding words
 words-append [] b = refl
 words-append (x ∷ a) b = rw (words-append a b, append-assoc)
 
+-- every number takes two octets
 length-words : (a : List ℕ) → length (words a) ≡ length a + length a
 unfolding words le16
 length-words [] = refl
@@ -133,10 +147,12 @@ length-words (x ∷ a) = let e = length-words a in omega arith
 four : Octets → List ℕ
 four s = listed s 0 ++ (listed s 1 ++ (listed s 2 ++ listed s 3))
 
+-- what the code lists at the four indexes is what the model lists
 four-is : (s : Octets) → presentFrom 0 (decode s .plain .controllers) ≡ four s
 unfolding four decode controllersIn
 four-is s = from-four _ _ _ _ ∙ rw (append-nil, listed-is s 0 (omega arith), listed-is s 1 (omega arith), listed-is s 2 (omega arith), listed-is s 3 (omega arith))
 
+-- so Read Indexes returns the count of them, and then them
 indexes-is : (s : Octets) → readIndexes (decode s .plain) ≡ le16 (length (four s)) ++ words (four s)
 unfolding readIndexes
 indexes-is s = rw (four-is s)
@@ -146,14 +162,17 @@ pub listed-put : (s d : Octets) (i at : ℕ) (d′ : Octets) → presentAt s i �
 unfolding words
 listed-put s d i at d′ e w = w ∙ rw (listed-present s i e, words, append-nil)
 
+-- a present index takes two octets of the reply
 pub listed-two : (s : Octets) (i : ℕ) → presentAt s i ≡ true → length (words (listed s i)) ≡ 2
 unfolding words le16
 listed-two s i e = rw (listed-present s i e, words)
 
+-- an absent one leaves the reply as it is
 pub listed-none : (s d : Octets) (i at : ℕ) → presentAt s i ≡ false → d ≡ writeAt d at (words (listed s i))
 unfolding words writeAt
 listed-none s d i at e = rw (listed-absent s i e, words)
 
+-- and takes no octet of it
 pub listed-zero : (s : Octets) (i : ℕ) → presentAt s i ≡ false → length (words (listed s i)) ≡ 0
 unfolding words
 listed-zero s i e = rw (listed-absent s i e, words)

@@ -30,14 +30,17 @@ size-true : (ps : Octets) → length ps ≡ 260 → setLocalName .size ps ≡ tr
 unfolding setLocalName sized
 size-true ps e = eq-eqb (length ps) 260 e
 
+-- any length but 260 is wrong
 size-false : (ps : Octets) → (length ps ≡ 260 → ⊥) → setLocalName .size ps ≡ false
 unfolding setLocalName sized
 size-false ps e = ne-eqb (length ps) 260 e
 
+-- the last octet of the name is not zero: refused
 act-name : (i : ℕ) (c : Controller) (ps : Octets) → (getD ps 248 0 ≡ 0 → ⊥) → setLocalName .act i c ps ≡ refuse nameNotEnded
 unfolding setLocalName nameEnds octet firstOf unless
 act-name i c ps e = rw (ne-eqb (getD ps 248 0) 0 e)
 
+-- the name ends with zero, but the last octet of the short name is not zero: refused
 act-short : (i : ℕ) (c : Controller) (ps : Octets) → getD ps 248 0 ≡ 0 → (getD ps 259 0 ≡ 0 → ⊥) → setLocalName .act i c ps ≡ refuse shortNameNotEnded
 unfolding setLocalName nameEnds shortNameEnds octet firstOf unless
 act-short i c ps e f = rw (eq-eqb (getD ps 248 0) 0 e, ne-eqb (getD ps 259 0) 0 f)
@@ -46,6 +49,7 @@ act-short i c ps e f = rw (eq-eqb (getD ps 248 0) 0 e, ne-eqb (getD ps 259 0) 0 
 nameChanged : Bool → ℕ → Octets → Octets
 nameChanged b i ps = elim b [ true ↦ [] | false ↦ event 0x0008 i ps ]
 
+-- both end with zero: they are returned and kept, and the event follows if they are new
 act-done : (i : ℕ) (c : Controller) (ps : Octets) (b : Bool) → getD ps 248 0 ≡ 0 → getD ps 259 0 ≡ 0 → same ps (c .host .name) ≡ b
     → setLocalName .act i c ps ≡ done ps (nameChanged b i ps) (withName (c .host) ps)
 unfolding setLocalName nameEnds shortNameEnds octet firstOf unless nameChanged
@@ -64,10 +68,12 @@ module _ (s : Octets) (i : ℕ) (ps d d′ : Octets) (r : Answer) (g : Ready s i
   pub name-length : (length ps ≡ 260 → ⊥) → r ≡ Refused 9 → d′ ≡ writeAt d 0 (commandStatus i 15 0x0D) → Gives (served s i 15 ps setLocalName) r d d′ s
   name-length e n w = served-length s i 15 ps setLocalName d d′ r g big (size-false ps e) n w
 
+  -- the name does not end with zero: Invalid Parameters
   pub name-open : length ps ≡ 260 → (getD ps 248 0 ≡ 0 → ⊥) → r ≡ Refused 9 → d′ ≡ writeAt d 0 (commandStatus i 15 0x0D) → Gives (served s i 15 ps setLocalName) r d d′ s
   unfolding statusOf setLocalName
   name-open l e n w = served-status s i 15 ps setLocalName d d′ r g big (size-true ps l) nameNotEnded refl (act-name i (controllerOf s i) ps e) n w
 
+  -- the name does, the short name does not: Invalid Parameters
   pub short-open : length ps ≡ 260 → getD ps 248 0 ≡ 0 → (getD ps 259 0 ≡ 0 → ⊥) → r ≡ Refused 9 → d′ ≡ writeAt d 0 (commandStatus i 15 0x0D) → Gives (served s i 15 ps setLocalName) r d d′ s
   unfolding statusOf setLocalName
   short-open l e f n w = served-status s i 15 ps setLocalName d d′ r g big (size-true ps l) shortNameNotEnded refl (act-short i (controllerOf s i) ps e f) n w

@@ -1,7 +1,7 @@
 -- Controller information in the pieces in which the code writes it.
 -- Assumes nothing.
 use Prim.Native.Nat.{ℕ}
-use mathlib.Core.List.{List, [], _∷_, _++_}
+use mathlib.Core.List.{[], _∷_, _++_}
 use Rattle.model.specs.declared.Hardware.{Hardware}
 use Rattle.model.specs.Octets.{Octets, le16, le32}
 use Rattle.model.specs.State.{Controller, currentSettings, settingsOf}

@@ -27,10 +27,11 @@ use Rattle.replies.specs.Answers.{Gives}
 use Rattle.replies.specs.declared.Answer.{Answer}
 use Rattle.replies.specs.declared.Answer.the-variants.{Done, Refused}
 use Rattle.outcomes.specs.Outcomes.{served}
-use Rattle.outcomes.specs.Endings.{served-length, served-status, served-done, length-complete}
+use Rattle.outcomes.specs.Endings.{served-length, served-status, served-done}
 use Rattle.lists.specs.Lists.{valueChecks}
 use Rattle.keys.specs.Lists.{keyList, ListOf}
 use Rattle.keys.proofs.Checks.{Statuses, FailsWith, fails-with, values-status, first-fails, first-holds, passes-none, append-fails, append-passes}
+use Rattle.model.specs.Proof.Room.{length-complete}
 
 -- 1. The three lists ------------------------------------------------------------------------------------------------------------------------------
 
@@ -43,6 +44,7 @@ table-is (suc (suc zero)) a b = refl
 table-is (suc (suc (suc zero))) a b = refl
 table-is (suc (suc (suc (suc k)))) a b = absurd (omega arith)
 
+-- the rule of a list's records is that of its table
 rule-is : (k : ℕ) → 1 ≤ k → k ≤ 3 → keyList k .rule ≡ ruleAt k
 unfolding keyList linkKeyList longTermKeyList identityKeyList ruleAt tableRules
 rule-is zero a b = absurd (omega arith)
@@ -83,21 +85,27 @@ module _ (l : KeyList) (f : Hardware) (ps : Octets) (n : ℕ) (rs : List Octets)
   unfolding listChecks valueChecks
   checks-are = rw append-assoc
 
+  -- a count above 32 is the first to fail
   count-fails : 32 < n → firstOf (listChecks l f ps n rs) ≡ some countAbove32
   count-fails h = rw checks-are (first-fails (ltb 32 n ⇒ countAbove32) _ (lt-ltb 32 n h))
 
+  -- with a count of at most 32 the checks of head, values and support tell
   past-count : n ≤ 32 → firstOf (listChecks l f ps n rs) ≡ firstOf (l .headChecks ps ++ (valueChecks (l .rule) rs ++ l .rule .support f))
   past-count h = rw checks-are (first-holds (ltb 32 n ⇒ countAbove32) _ (le-ltb 32 n h))
 
+  -- then the head tells, where it fails
   head-fails : (status : ℕ) → n ≤ 32 → FailsWith (l .headChecks ps) status → FailsWith (listChecks l f ps n rs) status
   head-fails status h x = record { reason = x .reason; first = past-count h ∙ append-fails (l .headChecks ps) _ (x .reason) (x .first); told = x .told }
 
+  -- past the head, values and support tell
   past-head : n ≤ 32 → passes (l .headChecks ps) ≡ true → firstOf (listChecks l f ps n rs) ≡ firstOf (valueChecks (l .rule) rs ++ l .rule .support f)
   past-head h e = past-count h ∙ append-passes (l .headChecks ps) _ (passes-none (l .headChecks ps) e)
 
+  -- then the values tell, where one fails
   values-fail : (status : ℕ) → n ≤ 32 → passes (l .headChecks ps) ≡ true → FailsWith (valueChecks (l .rule) rs) status → FailsWith (listChecks l f ps n rs) status
   values-fail status h e x = record { reason = x .reason; first = past-head h e ∙ append-fails (valueChecks (l .rule) rs) _ (x .reason) (x .first); told = x .told }
 
+  -- past the values, support tells
   past-values : n ≤ 32 → passes (l .headChecks ps) ≡ true → passes (valueChecks (l .rule) rs) ≡ true → firstOf (listChecks l f ps n rs) ≡ firstOf (l .rule .support f)
   past-values h e v = past-head h e ∙ append-passes (valueChecks (l .rule) rs) _ (passes-none (valueChecks (l .rule) rs) v)
 
@@ -111,10 +119,12 @@ recordsOf l ps = chop (l .rule .size) (u16 ps (l .countAt)) (drop (l .countAt + 
 abbrev checksOf : KeyList → Controller → Octets → List Check
 checksOf l c ps = listChecks l (c .radio .hardware) ps (u16 ps (l .countAt)) (recordsOf l ps)
 
+-- a list with a check that fails is refused, for the reason of the first
 act-refuses : (l : KeyList) (i : ℕ) (c : Controller) (ps : Octets) (x : Reason) → firstOf (checksOf l c ps) ≡ some x → loadKeys l .act i c ps ≡ refuse x
 unfolding loadKeys unless
 act-refuses l i c ps x e = rw e
 
+-- a list whose checks all pass is loaded: no return parameters, no events, the table's old records gone
 act-loads : (l : KeyList) (i : ℕ) (c : Controller) (ps : Octets) → firstOf (checksOf l c ps) ≡ none → loadKeys l .act i c ps ≡ done [] [] (withTable (c .host) (l .table) (loaded (recordsOf l ps)))
 unfolding loadKeys unless
 act-loads l i c ps e = rw e
@@ -140,18 +150,23 @@ unfolding part
 no-parameters i code ps = rw append-nil
 
 module _ (s : Octets) (i code k at n : ℕ) (fine : Bool) (ps d d′ : Octets) (r : Answer) (given : Ready s i) (big : 1024 ≤ length d) (g : ListOf k at fine ps) (en : n ≡ u16 ps at) where
+  -- the controller that the list is for
   abbrev here : Controller
   here = controllerOf s i
 
+  -- the records of the list, by the count that was read
   abbrev list : List Octets
   list = chop (ruleAt k .size) n (drop (at + 2) ps)
 
+  -- the count that was read is the model's
   count-is : u16 ps (keyList k .countAt) ≡ n
   count-is = rw (← g .place) (sym en)
 
+  -- so the records are the model's
   records-are : recordsOf (keyList k) ps ≡ list
   records-are = rw (count-is, ← g .place, rule-is k (g .least) (g .most))
 
+  -- where the checks fail with a status, the answer is Command Status with it, and the state stays
   refuses : (status : ℕ) → FailsWith (checksOf (keyList k) here ps) status → r ≡ Refused 9 → d′ ≡ writeAt d 0 (commandStatus i code status)
       → Gives (served s i code ps (loadKeys (keyList k))) r d d′ s
   unfolding loadKeys
@@ -159,22 +174,27 @@ module _ (s : Octets) (i code k at n : ℕ) (fine : Bool) (ps d d′ : Octets) (
       served-status s i code ps (loadKeys (keyList k)) d d′ r given big (list-sized k at fine ps g) (x .reason) refl
       (act-refuses (keyList k) i here ps (x .reason) (x .first)) m (rw (x .told) w)
 
+  -- a count above 32: No Resources
   pub count-refuses : 32 < n → r ≡ Refused 9 → d′ ≡ writeAt d 0 (commandStatus i code 0x07) → Gives (served s i code ps (loadKeys (keyList k))) r d d′ s
   unfolding statusOf
   count-refuses h m w =
       refuses 0x07 (record { reason = countAbove32; first = count-fails (keyList k) (here .radio .hardware) ps (u16 ps (keyList k .countAt)) (recordsOf (keyList k) ps) (rw count-is h); told = refl }) m w
 
+  -- the head fails: Invalid Parameters
   pub head-refuses : n ≤ 32 → fine ≡ false → r ≡ Refused 9 → d′ ≡ writeAt d 0 (commandStatus i code 0x0D) → Gives (served s i code ps (loadKeys (keyList k))) r d d′ s
   head-refuses h e m w =
       refuses 0x0D (head-fails (keyList k) (here .radio .hardware) ps (u16 ps (keyList k .countAt)) (recordsOf (keyList k) ps) 0x0D (rw count-is h)
       (fails-with 0x0D (keyList k .headChecks ps) (head-status k ps) (sym (g .head) ∙ e))) m w
 
+  -- the head is fine: the model's checks of it pass
   head-passes : fine ≡ true → passes (keyList k .headChecks ps) ≡ true
   head-passes e = sym (g .head) ∙ e
 
+  -- whether the values are fine is whether the model's checks of them pass
   values-are : (v : Bool) → v ≡ passes (valueChecks (ruleAt k) list) → passes (valueChecks (keyList k .rule) (recordsOf (keyList k) ps)) ≡ v
   values-are v e = sym (rw (records-are, rule-is k (g .least) (g .most)) e)
 
+  -- a value fails or a record is repeated: Invalid Parameters
   pub values-refuse : n ≤ 32 → fine ≡ true → (v : Bool) → v ≡ passes (valueChecks (ruleAt k) list) → v ≡ false → r ≡ Refused 9
       → d′ ≡ writeAt d 0 (commandStatus i code 0x0D) → Gives (served s i code ps (loadKeys (keyList k))) r d d′ s
   values-refuse h e v ev f m w =
@@ -184,17 +204,21 @@ module _ (s : Octets) (i code k at n : ℕ) (fine : Bool) (ps d d′ : Octets) (
   -- the values are fine: support tells
   module _ (h : n ≤ 32) (e : fine ≡ true) (v : Bool) (ev : v ≡ passes (valueChecks (ruleAt k) list)) (good : v ≡ true) (f : Hardware) (ef : f ≡ here .radio .hardware) (q : Bool)
       (eq : (x : Hardware) → x .supported ≡ f .supported → q ≡ passes (ruleAt k .support x)) where
+    -- so the first check that fails is one of support, if any does
     past : firstOf (checksOf (keyList k) here ps) ≡ firstOf (keyList k .rule .support (here .radio .hardware))
     past = past-values (keyList k) (here .radio .hardware) ps (u16 ps (keyList k .countAt)) (recordsOf (keyList k) ps) (rw count-is h) (head-passes e) (values-are v ev ∙ good)
 
+    -- they pass exactly if the code found support
     support-is : passes (keyList k .rule .support (here .radio .hardware)) ≡ q
     support-is = rw (rule-is k (g .least) (g .most)) (sym (eq (here .radio .hardware) (rw ef)))
 
+    -- no support: Not Supported
     pub support-refuses : q ≡ false → r ≡ Refused 9 → d′ ≡ writeAt d 0 (commandStatus i code 0x0C) → Gives (served s i code ps (loadKeys (keyList k))) r d d′ s
     support-refuses o m w =
         let x = fails-with 0x0C (keyList k .rule .support (here .radio .hardware)) (support-status k (here .radio .hardware)) (support-is ∙ o) in
         refuses 0x0C (record { reason = x .reason; first = past ∙ x .first; told = x .told }) m w
 
+    -- all checks pass: the list is in its table, and the answer is Command Complete
     pub list-loads : q ≡ true → (s′ : Octets) (place size : ℕ) → place ≡ tablePlace i k → size ≡ ruleAt k .size
         → s′ ≡ writeAt s place (region size (loaded (chop size n (drop (at + 2) ps)))) → r ≡ Done 9 → d′ ≡ writeAt d 0 (commandComplete i code 0 (part ps 0 0))
         → Gives (served s i code ps (loadKeys (keyList k))) r d d′ s′
@@ -232,11 +256,13 @@ unfolding keyList linkKeyList ruleAt tableRules linkKeyRule octet
 link-list ps fits e f =
     record { least = omega arith; most = omega arith; early = omega arith; place = refl; long = equal (length ps) (1 + 2 + 25 * u16 ps 1) (sym e ∙ f); head = debug-is (getD ps 0 0) }
 
+-- the same, of long term keys: nothing stands before the count
 pub long-term-list : (ps : Octets) (fits : Bool) → fits ≡ eqb (length ps) (0 + 2 + 36 * u16 ps 0) → fits ≡ true → ListOf 2 0 true ps
 unfolding keyList longTermKeyList ruleAt tableRules longTermKeyRule passes firstOf nothing
 long-term-list ps fits e f =
     record { least = omega arith; most = omega arith; early = omega arith; place = refl; long = equal (length ps) (0 + 2 + 36 * u16 ps 0) (sym e ∙ f); head = refl }
 
+-- the same, of identity keys
 pub identity-list : (ps : Octets) (fits : Bool) → fits ≡ eqb (length ps) (0 + 2 + 23 * u16 ps 0) → fits ≡ true → ListOf 3 0 true ps
 unfolding keyList identityKeyList ruleAt tableRules identityKeyRule passes firstOf nothing
 identity-list ps fits e f =

@@ -19,9 +19,9 @@ use Rattle.model.specs.WellFormed.{controllerOk}
 use Rattle.model.specs.Layout.{decode, encode, region}
 use Rattle.model.specs.Proof.Parts.{table-changed}
 use Rattle.model.specs.Tables.{ruleAt}
-use Rattle.model.specs.Proof.Tables.{freed-ok}
+use Rattle.model.specs.Proof.Tables.{freed-ok, length-freed}
 use Rattle.octets.specs.Parts.{part, writeAt}
-use Rattle.table.specs.Slots.{Canonical, firstAt, tableAt, holds-first, length-freed, sized-freed}
+use Rattle.table.specs.Slots.{Canonical, firstAt, tableAt, holds-first, sized-freed}
 use Rattle.layout.specs.Places.{Ready, controllerOf, putController, tablePlace}
 use Rattle.layout.specs.Change.{controller-fine}
 use Rattle.layout.specs.Tables.{table-at, table-fine, table-long, table-sized, region-at, table-stored}
@@ -32,15 +32,18 @@ use Rattle.replies.specs.declared.Answer.{Answer}
 use Rattle.replies.specs.declared.Answer.the-variants.{Done, Refused}
 use Rattle.replies.proofs.Laws.{then, length-event}
 use Rattle.outcomes.specs.Outcomes.{served}
-use Rattle.outcomes.specs.Endings.{served-length, served-address, served-done, length-complete}
+use Rattle.outcomes.specs.Endings.{served-length, served-address, served-done}
 use Rattle.keys.specs.Forget.{forgotten, Forgets}
+use Rattle.model.specs.Proof.Room.{length-complete}
 
 -- 1. One table ----------------------------------------------------------------------------------------------------------------------------------------
 
 module _ (s : Octets) (i k : ℕ) (ps : Octets) (place size : ℕ) (g : Ready s i) (l : k < 6) (ep : place ≡ tablePlace i k) (ez : size ≡ ruleAt k .size) where
+  -- table k of the controller
   abbrev table : Table
   table = tableOf (controllerOf s i .host) k
 
+  -- it lies at the place
   table-here : tableAt s place size ≡ table
   table-here = rw (ep, ez) (table-at s i g k l)
 
@@ -78,10 +81,12 @@ pub any-first : (m : Octets → Bool) (h : Host) (a : Bool) → a ≡ holds m (t
 unfolding anyKey
 any-first m h a e t = sym (rw (sym e ∙ t))
 
+-- the same, of the second where the first has none
 pub any-second : (m : Octets → Bool) (h : Host) (a b : Bool) → a ≡ holds m (tableOf h 1) → a ≡ false → b ≡ holds m (tableOf h 2) → b ≡ true → true ≡ anyKey m h
 unfolding anyKey
 any-second m h a b e f g t = sym (rw (sym e ∙ f, sym g ∙ t))
 
+-- where the first two have none, the third tells
 pub any-third : (m : Octets → Bool) (h : Host) (a b c : Bool) → a ≡ holds m (tableOf h 1) → a ≡ false → b ≡ holds m (tableOf h 2) → b ≡ false → c ≡ holds m (tableOf h 3) → c ≡ anyKey m h
 unfolding anyKey
 any-third m h a b c e f g t k = k ∙ sym (rw (sym e ∙ f, sym g ∙ t))
@@ -133,45 +138,54 @@ unfolding unpairDevice
 unpair-act i c ps a b p k ea eb ep ek = rw (← ea, ← eb, ← ep, ← ek)
 
 module _ (s : Octets) (i : ℕ) (ps d d′ : Octets) (r : Answer) (g : Ready s i) (big : 1024 ≤ length d) where
+  -- parameters that are not eight octets long: Invalid Parameters
   pub unpair-length : (length ps ≡ 8 → ⊥) → r ≡ Refused 9 → d′ ≡ writeAt d 0 (commandStatus i 0x001B 0x0D) → Gives (served s i 0x001B ps unpairDevice) r d d′ s
   unfolding unpairDevice sized
   unpair-length n m w = served-length s i 0x001B ps unpairDevice d d′ r g big (ne-eqb (length ps) 8 n) m w
 
   module _ (eight : length ps ≡ 8) where
+    -- eight octets are the length that the model asks for
     sized-eight : unpairDevice .size ps ≡ true
     unfolding unpairDevice sized
     sized-eight = eq-eqb (length ps) 8 eight
 
+    -- where the model refuses, the answer is Command Complete with the status, the address and its type, and the state stays
     refuses : (x : Reason) → unpairDevice .act i (controllerOf s i) ps ≡ refuse x → r ≡ Refused 16 → d′ ≡ writeAt d 0 (commandComplete i 0x001B (statusOf x) (take 7 ps))
         → Gives (served s i 0x001B ps unpairDevice) r d d′ s
     unfolding unpairDevice
     refuses x a m w = served-address s i 0x001B ps unpairDevice d d′ r g big sized-eight x refl (omega arith) a m w
 
+    -- an address type above 2: Invalid Parameters
     pub type-refuses : 2 < getD ps 6 0 → r ≡ Refused 16 → d′ ≡ writeAt d 0 (commandComplete i 0x001B 0x0D (take 7 ps)) → Gives (served s i 0x001B ps unpairDevice) r d d′ s
     unfolding octet firstOf unless statusOf
     type-refuses h m w = refuses addressTypeAbove2 (unpair-act i (controllerOf s i) ps true _ _ _ (lt-ltb 2 (getD ps 6 0) h) refl refl refl) m w
 
     module _ (t : getD ps 6 0 ≤ 2) where
+      -- a disconnect octet above 1: Invalid Parameters
       pub disconnect-refuses : 1 < getD ps 7 0 → r ≡ Refused 16 → d′ ≡ writeAt d 0 (commandComplete i 0x001B 0x0D (take 7 ps)) → Gives (served s i 0x001B ps unpairDevice) r d d′ s
       unfolding octet firstOf unless statusOf
       disconnect-refuses h m w = refuses disconnectAbove1 (unpair-act i (controllerOf s i) ps false true _ _ (le-ltb 2 (getD ps 6 0) t) (lt-ltb 1 (getD ps 7 0) h) refl refl) m w
 
       module _ (u : getD ps 7 0 ≤ 1) (o : Settings) (eo : o ≡ settingsOf (controllerOf s i)) where
+        -- the settings that were read tell whether the controller is powered
         power-is : o .radio .powered ≡ controllerOf s i .radio .powered
         unfolding settingsOf
         power-is = rw eo
 
+        -- an unpowered controller: Not Powered
         pub power-refuses : o .radio .powered ≡ false → r ≡ Refused 16 → d′ ≡ writeAt d 0 (commandComplete i 0x001B 0x0F (take 7 ps)) → Gives (served s i 0x001B ps unpairDevice) r d d′ s
         unfolding octet firstOf unless statusOf
         power-refuses h m w =
             refuses unpowered (unpair-act i (controllerOf s i) ps false false false _ (le-ltb 2 (getD ps 6 0) t) (le-ltb 1 (getD ps 7 0) u) (sym power-is ∙ h) refl) m w
 
         module _ (p : o .radio .powered ≡ true) (k : Bool) (ek : k ≡ anyKey (begins 7 ps) (controllerOf s i .host)) where
+          -- no key under the address and type: Not Paired
           pub pair-refuses : k ≡ false → r ≡ Refused 16 → d′ ≡ writeAt d 0 (commandComplete i 0x001B 0x06 (take 7 ps)) → Gives (served s i 0x001B ps unpairDevice) r d d′ s
           unfolding octet firstOf unless statusOf
           pair-refuses h m w =
               refuses notPaired (unpair-act i (controllerOf s i) ps false false true false (le-ltb 2 (getD ps 6 0) t) (le-ltb 1 (getD ps 7 0) u) (sym power-is ∙ p) (sym ek ∙ h)) m w
 
+          -- there is one: all such keys are gone from the three tables, and the reply is Command Complete and Device Unpaired
           pub unpair-done : k ≡ true → (s′ : Octets) → s′ ≡ encode (putController (decode s) i (withHost (controllerOf s i) (unpaired (begins 7 ps) (controllerOf s i .host)))) → r ≡ Done 29
               → d′ ≡ writeAt d 0 (commandComplete i 0x001B 0 (take 7 ps) ++ event 0x0016 i (take 7 ps)) → Gives (served s i 0x001B ps unpairDevice) r d d′ s′
           unfolding octet firstOf unless

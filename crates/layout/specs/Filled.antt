@@ -3,28 +3,25 @@ use mathlib.Core.Path.{_≡_, refl, ap, sym, _∙_}
 use Prim.Native.Nat.{ℕ, _+_, _<_}
 use native.Mathlib.Omega.{arith}
 use native.Mathlib.Nat.{add-zero}
-use mathlib.Core.Bool.{Bool, true, false}
-use mathlib.Core.List.{List, [], _∷_, _++_, map}
+use mathlib.Core.Bool.{true, false}
+use mathlib.Core.List.{List, [], _∷_, map}
 use mathlib.Core.Option.{Option, none, some}
 use lib.ListN.{length, getD, drop, replicate, length-replicate}
 use lib.Dec.{lit<, lit≤}
 use Rattle.model.specs.declared.Hardware.{Hardware}
-use Rattle.model.specs.Octets.{Octets, event, le16, le32}
-use Rattle.model.specs.State.{OpenCommand, controllerAt, flag, fresh, hardwareOk, idle, leSupported, noTables, noTimer, plugged, settingsOf, withController}
+use Rattle.model.specs.Octets.{Octets, le16, le32}
+use Rattle.model.specs.State.{OpenCommand, flag, fresh, idle, leSupported, noTables, noTimer, plugged, settingsOf}
 use Rattle.model.specs.Tables.{blockedRule, deviceRule, identityKeyRule, linkKeyRule, longTermKeyRule, tableRules, uuidRule}
 use Rattle.model.specs.Layout.{block, blocks, decode, encode, hardwarePart, occupancy, openPart, region, settingsPart, slotOctets, slots}
 use Rattle.model.specs.Meanings.{stateOk}
-use Rattle.model.specs.Proof.Demand3.{idle-ok, state-back, state-well}
-use Rattle.model.specs.Proof.Tests.{no-way}
+use Rattle.model.specs.Proof.Demand3.{state-back, state-well}
 use Rattle.octets.specs.Parts.{join, lengths, placeAt, write-split, write-whole, writeAt}
-use Rattle.layout.specs.Places.{Ready, base, controllerOf, hardwareHead, openAt, placeOf, presentAt, putController, sizes, withClock}
+use Rattle.layout.specs.Places.{base, hardwareHead, openAt, placeOf, presentAt, putController, sizes, withClock}
 use Rattle.layout.specs.Reads.{absent-open, absent-slot}
 use Rattle.layout.specs.Lens.{Shaped, join-block, piece-write, pieces, regionPieces, shaped, state-is, state-put, withBlock, withSlot, write-in-sized, writeIn}
-use Rattle.model.specs.Hub.{badArgument, callPlain, finished, plug, plugOut, stateOf, underWay, within}
-use Rattle.model.specs.WellFormed.{callWide, controllerOk, hardwareWide, openOk, plainOk, slotOk, slotsOk, wellFormed}
-use Rattle.model.specs.Proof.Stays.{controller-ok, plain-stays}
+use Rattle.model.specs.Hub.{plug}
 use Rattle.layout.specs.Change.{put-controller}
-use Rattle.layout.specs.Kept.{encode-controller, encode-open, encode-ready, put-well, same-slot}
+use Rattle.table.specs.Laws.{word-over}
 
 -- 1. A block filled ---------------------------------------------------------------------------------------------------------------------------
 
@@ -105,58 +102,7 @@ module _ (s : Octets) (i : ℕ) (f : Hardware) (ok : stateOk s ≡ true) (l : i 
       let g = three-writes in
       rw (two-parts (writeAt s (base i) (1 ∷ [])) (base i) f, e) ((simp add-zero at g) ∙ plugged-state)
 
--- the fresh hub is valid
-fresh-fine : plainOk fresh ≡ true
-unfolding plainOk fresh slotsOk slotOk
-fresh-fine = refl
-
--- what plug leaves, of hardware that it takes
-plug-leaves : (f : Hardware) (b : Bool) → b ≡ true → stateOf fresh (elim b [ true ↦ finished (event 4 0 []) (withController fresh 0 (some (plugged f))) | false ↦ badArgument ]) ≡ withController fresh 0 (some (plugged f))
-unfolding stateOf
-plug-leaves f true e = refl
-plug-leaves f false e = no-way (sym e)
-
--- what plug makes is valid, if what it is given is
-pub plugged-fine : (f : Hardware) → hardwareOk f ≡ true → hardwareWide f ≡ true → controllerOk (plugged f) ≡ true
-unfolding callPlain within plugOut controllerAt fresh callWide withController
-plugged-fine f k w =
-    let p : plainOk (withController fresh 0 (some (plugged f))) ≡ true = rw (plug-leaves f (hardwareOk f) k) at (plain-stays fresh fresh-fine (plug 1024 0 f) w) in
-    controller-ok (withController fresh 0 (some (plugged f))) 0 (plugged f) p refl
-
-module _ (s : Octets) (i : ℕ) (f : Hardware) (ok : stateOk s ≡ true) (l : i < 4) (gone : presentAt s i ≡ false) (k : hardwareOk f ≡ true) (w : hardwareWide f ≡ true) where
-  -- nothing is under way there
-  idle-there : underWay (decode s) i ≡ none
-  unfolding underWay openAt
-  idle-there = absent-open s i l gone
-
-  -- the hub with what plug made holds it
-  plugged-there : controllerAt (putController (decode s) i (plugged f) .plain) i ≡ some (plugged f)
-  unfolding putController
-  plugged-there = same-slot (decode s .plain) i (some (plugged f)) l (shaped (decode s) i (state-well s ok) l .below)
-
-  -- after plug the state is well formed, and holds what plug made
-  pub filled-well : wellFormed (putController (decode s) i (plugged f)) ≡ true
-  unfolding openOk
-  filled-well = put-well (decode s) i (plugged f) (state-well s ok) (plugged-fine f k w) (rw idle-there)
-
-  -- the index is present
-  pub filled-ready : Ready (encode (putController (decode s) i (plugged f))) i
-  filled-ready = encode-ready (putController (decode s) i (plugged f)) filled-well i (plugged f) plugged-there
-
-  -- with the controller that plug makes
-  pub filled-now : controllerOf (encode (putController (decode s) i (plugged f))) i ≡ plugged f
-  filled-now = encode-controller (putController (decode s) i (plugged f)) filled-well i (plugged f) plugged-there
-
-  -- and nothing under way
-  pub filled-open : openAt (encode (putController (decode s) i (plugged f))) i ≡ none
-  unfolding putController underWay
-  filled-open = encode-open (putController (decode s) i (plugged f)) filled-well i ∙ idle-there
-
 -- 2. The fresh state --------------------------------------------------------------------------------------------------------------------------
-
--- it is well formed
-pub fresh-well : wellFormed (idle fresh) ≡ true
-fresh-well = idle-ok fresh fresh-fine
 
 -- zeros are the fresh state
 fresh-zeros : (n : ℕ) → n ≡ 16116 → replicate n 0 ≡ encode (idle fresh)
@@ -171,12 +117,7 @@ state-cleared s n e m =
 
 -- 3. The clock --------------------------------------------------------------------------------------------------------------------------------
 
--- the number at the start, over the number that stands there
-clock-over : (v w : ℕ) (x : Octets) → writeAt (le32 v ++ x) 0 (le32 w) ≡ le32 w ++ x
-unfolding writeAt le32
-clock-over v w x = refl
-
 -- the clock written anew
 pub clock-changed : (s : Octets) (v : ℕ) → stateOk s ≡ true → writeAt s 0 (le32 v) ≡ encode (withClock (decode s) v)
 unfolding encode withClock
-clock-changed s v ok = ap (λ (x : Octets). writeAt x 0 (le32 v)) (state-back s ok) ∙ clock-over _ v _
+clock-changed s v ok = ap (λ (x : Octets). writeAt x 0 (le32 v)) (state-back s ok) ∙ word-over _ v _

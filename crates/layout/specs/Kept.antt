@@ -8,7 +8,6 @@ use mathlib.Core.Option.{Option, none, some}
 use lib.ListN.{length, getD, set, length-set}
 use lib.Seq.{getD-set-other, getD-set-same}
 use lib.Dec.{ltb}
-use borrow.Author.Tests.{lt-ltb}
 use Rattle.model.specs.Octets.{Octets}
 use Rattle.model.specs.State.{Controller, Host, Hub, OpenCommand, PlainHub, controllerAt, withController, withHost}
 use Rattle.model.specs.Hub.{underWay, withOpen}
@@ -16,14 +15,13 @@ use Rattle.model.specs.WellFormed.{controllerOk, openOk, opensOk, plainOk, slot
 use Rattle.model.specs.Layout.{decode, encode}
 use Rattle.model.specs.Proof.Decode.{decode-encode}
 use Rattle.model.specs.Proof.Demand3.{encode-ok, state-well}
-use Rattle.model.specs.Proof.Keeps.{opens-at}
+use Rattle.model.specs.Proof.Keeps.{opens-at, slot-four}
 use Rattle.model.specs.Proof.Stays.{fit-plain, plain-fit, slots-set}
-use Rattle.model.specs.Proof.Tables.{lt-true}
 use Rattle.model.specs.Proof.Tests.{and-true, both, no-way}
-use Rattle.layout.specs.Places.{Ready, controllerOf, emptied, openAt, presentAt, putController, ready, withClock}
+use Rattle.layout.specs.Places.{Ready, controllerOf, openAt, presentAt, putController, ready}
 use Rattle.layout.specs.Reads.{absent-controller, present-controller, present-slot}
 use Rattle.layout.specs.Lens.{shaped, withSlot}
-use Rattle.layout.specs.Change.{controller-fine, put-controller, put-none, put-open}
+use Rattle.layout.specs.Change.{controller-fine, put-controller, put-open}
 
 -- 1. Well-formed hubs, changed ------------------------------------------------------------------------------------------------------------------
 
@@ -57,19 +55,6 @@ pub open-well : (h : Hub) (i : ℕ) (c : Controller) (o : Option OpenCommand) �
     → wellFormed (withOpen h i o) ≡ true
 unfolding slotOk
 open-well h i c o e g k n = rw (← put-open h i c o g) (slot-well h i (some c) o e k n)
-
--- an index emptied
-pub empty-well : (h : Hub) (i : ℕ) → wellFormed h ≡ true → wellFormed (emptied h i) ≡ true
-unfolding slotOk openOk
-empty-well h i e = rw (← put-none h i) (slot-well h i none none e refl refl)
-
--- the clock set
-pub clock-well : (h : Hub) (v : ℕ) → wellFormed h ≡ true → v < 4294967296 → wellFormed (withClock h v) ≡ true
-unfolding wellFormed withClock
-clock-well h v e l =
-    let a = and-true (plainOk (h .plain)) _ e in
-    let f = plain-fit (h .plain) (a .0) in
-    both (fit-plain (record { clock = v; controllers = h .plain .controllers }) (record { four = f .four; clock = lt-true v 4294967296 l; slots = f .slots })) (a .1)
 
 -- 2. The state of a well-formed hub ---------------------------------------------------------------------------------------------------------------
 
@@ -110,15 +95,10 @@ module _ (h : Hub) (e : wellFormed h ≡ true) (i : ℕ) where
 
 -- 3. Changed, at the index and elsewhere --------------------------------------------------------------------------------------------------------------
 
--- the slot at an index below 4
-slot-at : (p : PlainHub) (i : ℕ) → i < 4 → controllerAt p i ≡ getD (p .controllers) i none
-unfolding controllerAt
-slot-at p i l = rw (lt-ltb i 4 l, controllerAt)
-
 -- at the index
 pub same-slot : (p : PlainHub) (i : ℕ) (x : Option Controller) → i < 4 → i < length (p .controllers) → controllerAt (withController p i x) i ≡ x
 unfolding withController
-same-slot p i x l m = slot-at (withController p i x) i l ∙ getD-set-same (p .controllers) i x none m
+same-slot p i x l m = slot-four (withController p i x) i l ∙ getD-set-same (p .controllers) i x none m
 
 -- elsewhere
 pub other-slot : (p : PlainHub) (i j : ℕ) (x : Option Controller) → (j ≡ i → ⊥) → controllerAt (withController p i x) j ≡ controllerAt p j

@@ -14,7 +14,7 @@ use Rattle.model.specs.Octets.{Octets, le16, le32}
 use Rattle.model.specs.State.{Controller, Hub, OpenCommand, Table, hardwareOk, settingsOf, withController}
 use Rattle.model.specs.Tables.{TableRule, blockedRule, deviceRule, identityKeyRule, linkKeyRule, longTermKeyRule, tableRules, uuidRule}
 use Rattle.model.specs.Image.{radioOk}
-use Rattle.model.specs.WellFormed.{controllerOk, openOk, opensOk, plainOk, slotOk, slotsOk, tableOk, tablesOk, wellFormed}
+use Rattle.model.specs.WellFormed.{controllerOk, plainOk, slotOk, slotsOk, tableOk, tablesOk, wellFormed}
 use Rattle.model.specs.Layout.{block, blocks, controllerPart, encode, hardwarePart, openPart, region, regions, settingsPart}
 use Rattle.model.specs.Proof.Decode.{length-region}
 use Rattle.model.specs.Proof.Layout.{length-block, length-open}
@@ -23,6 +23,7 @@ use Rattle.model.specs.Proof.Stays.{plain-fit}
 use Rattle.model.specs.Proof.Tests.{and-true, equal, no-way}
 use Rattle.octets.specs.Parts.{join, join-read, join-write, length-writeAt, lengths, part, part-right, placeAt, write-right, writeAt, write-whole}
 use Rattle.layout.specs.Places.{base, placeOf, sizes}
+use Rattle.model.specs.Proof.Keeps.{opens-length}
 
 -- 1. The pieces of a block, and the blocks of the state -----------------------------------------------------------------------------------------
 
@@ -116,14 +117,6 @@ pub record Shaped (h : Hub) (i : ℕ) : Type 0 where
   pub below : i < length (h .plain .controllers)
   pub beside : i < length (h .openCommands)
   pub even : Even (blockPieces (h .plain .controllers) (h .openCommands))
-
--- as many open commands as slots
-opens-length : (ss : List (Option Controller)) (os : List (Option OpenCommand)) → opensOk ss os ≡ true → length os ≡ length ss
-unfolding opensOk
-opens-length [] [] e = refl
-opens-length [] (o ∷ os) e = no-way (sym e)
-opens-length (s ∷ ss) [] e = no-way (sym e)
-opens-length (s ∷ ss) (o ∷ os) e = ap suc (opens-length ss os (and-true (openOk s o) _ e .1))
 
 -- a well-formed hub has four such slots
 pub shaped : (h : Hub) (i : ℕ) → wellFormed h ≡ true → i < 4 → Shaped h i

@@ -2,13 +2,12 @@
 use mathlib.Core.Path.{_≡_, refl, ap, sym, _∙_}
 use Prim.Native.Nat.{ℕ, _+_, _-_, _≤_}
 use native.Mathlib.Omega.{arith}
-use mathlib.Core.Bool.{Bool, true, false}
+use mathlib.Core.Bool.{true}
 use mathlib.Core.List.{[], _∷_, _++_}
 use mathlib.Core.Option.{Option, none, some}
 use lib.ListN.{length, take, drop, replicate}
 use lib.Seq.{drop-drop, getD-drop}
-use lib.Dec.{eqb}
-use borrow.Author.Tests.{eq-eqb, eqb-false, eqb-true, ne-eqb}
+use borrow.Author.Tests.{eq-eqb, ne-eqb}
 use Rattle.model.specs.Octets.{Octets, le16, u16}
 use Rattle.model.specs.State.{Controller, OpenCommand}
 use Rattle.model.specs.Commands.{rule}
@@ -69,17 +68,6 @@ module _ (s : Octets) (i : ℕ) (r : Ready s i) where
   -- nothing is under way where the code is 0
   pub open-nothing : u16 s (placeOf i 1) ≡ 0 → openAt s i ≡ none
   open-nothing e = open-by s i r ∙ with-zero (u16 s (placeOf i 1)) (drop 3 (part s (base i) 4028)) e
-
-  -- and nowhere else
-  pub nothing-open : openAt s i ≡ none → u16 s (placeOf i 1) ≡ 0
-  nothing-open e = go (eqb (u16 s (placeOf i 1)) 0) refl
-    where
-      go : (b : Bool) → eqb (u16 s (placeOf i 1)) 0 ≡ b → u16 s (placeOf i 1) ≡ 0
-      go true t = eqb-true (u16 s (placeOf i 1)) 0 t
-      go false t =
-          let a = open-by s i r ∙ with-code (u16 s (placeOf i 1)) (drop 3 (part s (base i) 4028)) (eqb-false (u16 s (placeOf i 1)) 0 t) in
-          let z : _≡_ {A = ℕ} 0 1 = cc in
-          absurd (omega arith)
 
   -- what is known of a command under way
   pub open-started : (o : OpenCommand) → openAt s i ≡ some o → Started o

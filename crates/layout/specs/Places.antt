@@ -9,10 +9,9 @@ use lib.Dec.{eqb, ltb}
 use borrow.Author.Tests.{ltb-true}
 use Rattle.model.specs.declared.Hardware.{Hardware}
 use Rattle.model.specs.declared.Settings.{Settings}
-use Rattle.model.specs.Octets.{Octets, le16, le32, u32}
-use Rattle.model.specs.State.{Controller, Hub, OpenCommand, Table, flag, withController}
-use Rattle.model.specs.Tables.{chop}
-use Rattle.model.specs.Layout.{controllerBack, decode, slotsBack}
+use Rattle.model.specs.Octets.{Octets, le16, le32}
+use Rattle.model.specs.State.{Controller, Hub, OpenCommand, flag, withController}
+use Rattle.model.specs.Layout.{controllerBack, decode}
 use Rattle.model.specs.Meanings.{stateOk}
 use Rattle.model.specs.Proof.Demand3.{state-long}
 use Rattle.model.specs.Proof.Tests.{and-true}

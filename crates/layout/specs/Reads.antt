@@ -58,7 +58,7 @@ first-octet : (s : Octets) (i : ℕ) → getD (part s (base i) 4028) 0 0 ≡ get
 first-octet s i = getD-part s (base i) 4028 0 (omega arith) ∙ rw add-zero
 
 -- by the first octet: a controller
-controller-some : (o : Octets) → eqb (getD o 0 0) 1 ≡ true → controllerIn o ≡ some (controllerBack (drop 6 o))
+pub controller-some : (o : Octets) → eqb (getD o 0 0) 1 ≡ true → controllerIn o ≡ some (controllerBack (drop 6 o))
 unfolding controllerIn
 controller-some o e = rw (e, controllerIn)
 

@@ -2,18 +2,17 @@
 use mathlib.Core.Path.{_≡_, refl, ap, sym, _∙_}
 use Prim.Native.Nat.{ℕ, zero, suc, _+_, _*_, _≤_, _<_}
 use native.Mathlib.Omega.{arith}
-use native.Mathlib.Nat.{add-zero, mul-suc, mul-zero}
+use native.Mathlib.Nat.{mul-suc}
 use mathlib.Core.Bool.{Bool, true, _&&_}
 use mathlib.Core.List.{List, [], _∷_, _++_, append-nil}
 use mathlib.Core.Option.{none, some}
-use lib.ListN.{length, getD, take, drop, set, length-append, length-replicate}
+use lib.ListN.{length, getD, take, drop, set, length-replicate}
 use lib.Seq.{drop-drop, take-take}
 use lib.Dec.{eqb}
 use Rattle.model.specs.declared.Hardware.{Hardware}
-use Rattle.model.specs.Octets.{Octets, le32, u16, u32}
+use Rattle.model.specs.Octets.{Octets}
 use Rattle.model.specs.State.{Table, settingsOf, tableOf, withHost, withTable}
-use Rattle.model.specs.Reasons.{passes}
-use Rattle.model.specs.Tables.{TableRule, blockedRule, chop, deviceRule, entries, every, identityKeyRule, linkKeyRule, longTermKeyRule, recordOk, tableRules, uuidRule}
+use Rattle.model.specs.Tables.{TableRule, blockedRule, chop, deviceRule, entries, every, identityKeyRule, linkKeyRule, longTermKeyRule, tableRules, uuidRule}
 use Rattle.model.specs.WellFormed.{tableOk, tablesOk}
 use Rattle.model.specs.Layout.{decode, encode, region, slotOctets, slots, tableBack}
 use Rattle.model.specs.Proof.Decode.{table-back}
@@ -22,12 +21,13 @@ use Rattle.model.specs.Proof.Parts.{controller-fit, table-changed, table-ok}
 use Rattle.model.specs.Tables.{ruleAt}
 use Rattle.model.specs.Proof.Tables.{table-fit}
 use Rattle.model.specs.Proof.Tests.{and-true, equal, no-way}
-use Rattle.octets.specs.Parts.{drop-take, getD-part, part, placeAt, writeAt}
+use Rattle.octets.specs.Parts.{drop-take, part, placeAt, writeAt, u32-part}
 use Rattle.layout.specs.Places.{Ready, controllerOf, openAt, placeOf, putController, sizes, tablePlace}
-use Rattle.table.specs.Slots.{tableAt}
+use Rattle.table.specs.Slots.{tableAt, sized-ok}
 use Rattle.layout.specs.Lens.{inside, pieces, regionPieces}
 use Rattle.layout.specs.Change.{controller-changed, controller-fine, piece-at}
 use Rattle.layout.specs.Kept.{controller-back, controller-ready, host-fine}
+use Rattle.table.specs.Laws.{length-region}
 
 -- 1. A table's octets, from the whole or from its region ----------------------------------------------------------------------------------------
 
@@ -39,20 +39,8 @@ chop-take size (suc n) o =
     let e : size * suc n ≡ size + size * n = mul-suc size n ∙ omega arith in
     rw (e, take-take size (size + size * n) o (omega arith), drop-take size (size * n) o, chop-take size n (drop size o))
 
--- a number of two octets in a part
-u16-part : (s : Octets) (b m k : ℕ) → k + 1 < m → u16 (part s b m) k ≡ u16 s (b + k)
-unfolding u16
-u16-part s b m k h =
-    let e : b + (k + 1) ≡ b + k + 1 = omega arith in
-    rw (getD-part s b m k (omega arith), getD-part s b m (k + 1) h, e)
-
--- and of four octets
-u32-part : (s : Octets) (b m : ℕ) → 4 ≤ m → u32 (part s b m) 0 ≡ u32 s b
-unfolding u32
-u32-part s b m h = rw (u16-part s b m 0 (omega arith), u16-part s b m 2 (omega arith), add-zero)
-
 -- the slots behind the word
-behind-word : (s : Octets) (p m : ℕ) → drop 4 (part s p (4 + m)) ≡ take m (drop (p + 4) s)
+pub behind-word : (s : Octets) (p m : ℕ) → drop 4 (part s p (4 + m)) ≡ take m (drop (p + 4) s)
 unfolding part
 behind-word s p m = drop-take 4 m (drop p s) ∙ rw (drop-drop 4 p s)
 
@@ -92,7 +80,7 @@ five : (k : ℕ) → 5 + k ≡ past5 k
 five k = omega arith
 
 -- there are six rules
-rules-six : length tableRules ≡ 6
+pub rules-six : length tableRules ≡ 6
 unfolding tableRules
 rules-six = refl
 
@@ -124,24 +112,6 @@ every-sized size g (some r ∷ t) e =
     let a = and-true (eqb (length r) size && g r) _ e in
     (equal (length r) size (and-true (eqb (length r) size) _ (a .0) .0), every-sized size g t (a .1))
 
--- so in a valid table
-pub fine-sized : (u : TableRule) (f : Hardware) (t : Table) → tableOk u f t ≡ true → Sized (u .size) t
-unfolding recordOk
-fine-sized u f t e = every-sized (u .size) (λ x. passes (u .checks x)) t (table-fit u f t e .each)
-
--- the length of slots, and of a region
-sized-slots : (size : ℕ) (t : Table) → Sized size t → length (slots size t) ≡ size * length t
-unfolding Sized slots
-sized-slots size [] z = sym (mul-zero size)
-sized-slots size (x ∷ t) z = length-append (slotOctets size x) (slots size t) ∙ omega (arith, z .0, sized-slots size t (z .1), mul-suc size (length t))
-
--- a table of 32 such slots fills its region
-pub sized-region : (size : ℕ) (t : Table) → length t ≡ 32 → Sized size t → length (region size t) ≡ 4 + size * 32
-unfolding region le32
-sized-region size t n z =
-    let e : length (slots size t) ≡ size * 32 = sized-slots size t z ∙ rw n in
-    omega arith
-
 -- 3. The tables of a present controller ---------------------------------------------------------------------------------------------------------
 
 module _ (s : Octets) (i : ℕ) (r : Ready s i) (k : ℕ) (l : k < 6) where
@@ -159,7 +129,7 @@ module _ (s : Octets) (i : ℕ) (r : Ready s i) (k : ℕ) (l : k < 6) where
 
   -- and every record has the size
   pub table-sized : Sized (ruleAt k .size) (tableOf (controllerOf s i .host) k)
-  table-sized = fine-sized (ruleAt k) (controllerOf s i .radio .hardware) (tableOf (controllerOf s i .host) k) table-fine
+  table-sized = sized-ok (ruleAt k) (controllerOf s i .radio .hardware) (tableOf (controllerOf s i .host) k) table-fine
 
   -- its region is the piece from 5 on
   region-here : getD (pieces (controllerOf s i) (openAt s i)) (past5 k) [] ≡ region (ruleAt k .size) (tableOf (controllerOf s i .host) k)
@@ -191,7 +161,7 @@ module _ (s : Octets) (i : ℕ) (r : Ready s i) (k : ℕ) (l : k < 6) where
   unfolding tablePlace
   table-stored t n z =
       let d = withHost (controllerOf s i) (withTable (controllerOf s i .host) k t) in
-      rw (five k) (controller-changed s i r (past5 k) (region (ruleAt k .size) t) d (omega arith) (sized-region (ruleAt k .size) t n z ∙ sym (size-at k l)) (region-put t))
+      rw (five k) (controller-changed s i r (past5 k) (region (ruleAt k .size) t) d (omega arith) (length-region (ruleAt k .size) t z n ∙ sym (size-at k l)) (region-put t))
 
   -- after a valid table is stored
   module _ (t : Table) (n : tableOk (ruleAt k) (controllerOf s i .radio .hardware) t ≡ true) where
@@ -199,7 +169,7 @@ module _ (s : Octets) (i : ℕ) (r : Ready s i) (k : ℕ) (l : k < 6) where
     pub table-written : writeAt s (tablePlace i k) (region (ruleAt k .size) t) ≡ encode (putController (decode s) i (withHost (controllerOf s i) (withTable (controllerOf s i .host) k t)))
     table-written =
         let f = controllerOf s i .radio .hardware in
-        table-stored t (table-fit (ruleAt k) f t n .slots) (fine-sized (ruleAt k) f t n)
+        table-stored t (table-fit (ruleAt k) f t n .slots) (sized-ok (ruleAt k) f t n)
 
     -- the index is present in a well-formed state
     pub table-ready : Ready (encode (putController (decode s) i (withHost (controllerOf s i) (withTable (controllerOf s i .host) k t)))) i

@@ -36,10 +36,12 @@ fine-cons k s at (suc n) l = let e : suc n - 1 ≡ n = omega arith in rw (e, pas
 
 -- a record that was read: the next one begins behind it
 module _ (k : ℕ) (s : Octets) (at n : ℕ) (key : Key) (e : key ≡ keyAt s at k) (l : 0 < n) where
+  -- whether it is fine is whether its checks pass
   fine-is : key .fine ≡ passes (ruleAt k .checks (part s at (ruleAt k .size)))
   unfolding keyAt
   fine-is = ap (λ (x : Key). x .fine) e
 
+  -- and the next place is its size further on
   next-is : key .next ≡ at + ruleAt k .size
   unfolding keyAt
   next-is = ap (λ (x : Key). x .next) e

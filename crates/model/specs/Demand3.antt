@@ -16,6 +16,7 @@ use Rattle.model.specs.Meanings.{meaning, plainMeaning, hubLoad}
 
 -- a call of the list, with what our hub answered and wrote
 pub data Entry : Type 0 where
+  -- the call, the number answered, the octets written
   entry : Call → ℕ → Octets → Entry
 
 module _ {S : Type 0} (run : S → Call → Result S) where

@@ -15,11 +15,17 @@ use Rattle.model.specs.Image.{image}
 
 -- A call and its arguments. `room` is the length of the reply buffer. (load is only a start: Meanings.antt.)
 pub data Call : Type 0 where
+  -- "a command packet"
   command : (room : ℕ) (packet : Octets) → Call
+  -- "a radio report (index, status)"
   report : (room index status : ℕ) → Call
+  -- "a clock reading in seconds"
   clock : (room reading : ℕ) → Call
+  -- "plug (index, public address, version octet, manufacturer, supported settings)": all but the index are the hardware
   plug : (room index : ℕ) (hardware : Hardware) → Call
+  -- unplug: the controller at this index is taken away
   unplug : (room index : ℕ) → Call
+  -- save, which writes the image as its reply
   save : (room : ℕ) → Call
 
 -- What a call comes to with nothing under way ---------------------------------------------------------------------------------------------------
@@ -33,7 +39,9 @@ pub record RefusalForm : Type 0 where
 -- what a call comes to: answers 0, 2, 3, 4 and 6 (5 is Meanings.antt's, 7 is load's, and 1 only our hub gives)
 pub data Outcome : Type 0 where
   finished : Octets → PlainHub → Outcome  -- the octets written and the new state
+  -- "refused with a status": how that one reply is written, and the reason that gives the status
   refused : RefusalForm → Reason → Outcome
+  -- answers 3, 4 and 6: "nothing" written, state the "same"
   badPacket noRoom badArgument : Outcome
 
 -- "What a call answers": the number
@@ -70,7 +78,9 @@ stateOf p badArgument = p
 -- A command's verdict. `unlessBusy o w`: a settings command past the checks that stand before Busy; it comes to o, unless a command is under
 -- way there, and w says that it waits for the radio first.
 pub data Verdict : Type 0 where
+  -- it comes to this, whatever is under way
   anyway : Outcome → Verdict
+  -- it comes to this unless Busy; true where the radio is to report first
   unlessBusy : Outcome → Bool → Verdict
 
 -- what it comes to with nothing under way

@@ -1,12 +1,12 @@
 -- Parts of a list, and lists written into lists; and the lens of a joined list: one part at its place.
 use mathlib.Core.Path.{_≡_, refl, ap, sym, _∙_}
-use Prim.Native.Nat.{ℕ, zero, suc, _+_, _*_, _-_, _≤_, _<_}
+use Prim.Native.Nat.{ℕ, zero, suc, _+_, _-_, _≤_, _<_}
 use native.Mathlib.Omega.{arith}
 use native.Mathlib.Nat.{add-zero, zero-add, add-suc, suc-add, add-assoc}
-use mathlib.Core.List.{List, [], _∷_, _++_, map, append-assoc, append-nil}
-use lib.ListN.{length, getD, take, drop, set, length-take, length-drop, length-append, length-set, drop-of-length-le}
-use lib.Seq.{sets, sets-eq, length-sets, drop-at, take-at, take-append-le, drop-append-le, drop-append-add, set-append-left, getD-take, getD-drop, take-take, drop-drop, take-nil}
-use Rattle.model.specs.Octets.{Octets}
+use mathlib.Core.List.{List, [], _∷_, _++_, append-nil}
+use lib.ListN.{length, getD, take, drop, set, length-take, length-drop, length-set, drop-of-length-le}
+use lib.Seq.{sets, sets-eq, length-sets, take-append-le, drop-append-le, drop-append-add, set-append-left, getD-take, getD-drop, take-take, drop-drop, take-nil}
+use Rattle.model.specs.Octets.{Octets, u16, u32}
 
 -- the n octets of s from at on
 unfoldable pub part : Octets → ℕ → ℕ → Octets
@@ -129,3 +129,15 @@ part-part s b m a n h =
 pub getD-part : (s : Octets) (b m k : ℕ) → k < m → getD (part s b m) k 0 ≡ getD s (b + k) 0
 unfolding part
 getD-part s b m k h = rw (getD-take, getD-drop)
+
+-- a number of two octets in a part
+pub u16-part : (s : Octets) (b m k : ℕ) → k + 1 < m → u16 (part s b m) k ≡ u16 s (b + k)
+unfolding u16
+u16-part s b m k h =
+    let e : b + (k + 1) ≡ b + k + 1 = omega arith in
+    rw (getD-part s b m k (omega arith), getD-part s b m (k + 1) h, e)
+
+-- and of four octets
+pub u32-part : (s : Octets) (b m : ℕ) → 4 ≤ m → u32 (part s b m) 0 ≡ u32 s b
+unfolding u32
+u32-part s b m h = rw (u16-part s b m 0 (omega arith), u16-part s b m 2 (omega arith), add-zero)

@@ -1,17 +1,17 @@
 -- The ways a command's function ends, each as one law over plain variables: from what its callees ensure to the contract that it states.
-use Prim.Native.Nat.{ℕ, zero, suc, _+_, _≤_, _<_}
+use Prim.Native.Nat.{ℕ, _+_, _≤_}
 use native.Mathlib.Omega.{arith}
-use mathlib.Core.Path.{_≡_, refl, sym, ap, _∙_}
-use mathlib.Core.Bool.{Bool, true, false}
-use mathlib.Core.List.{List, [], _∷_, _++_}
+use mathlib.Core.Path.{_≡_, refl, sym, _∙_}
+use mathlib.Core.Bool.{true, false}
+use mathlib.Core.List.{[], _++_}
 use mathlib.Core.Option.{Option, none, some}
-use lib.ListN.{length, take, drop, length-take, length-append}
+use lib.ListN.{length, take, length-take}
 use lib.Dec.{eqb}
-use Rattle.model.specs.Octets.{Octets, event, commandComplete, commandStatus, le16, le32}
-use Rattle.model.specs.State.{Controller, Host, PlainHub, OpenCommand, Hub, withController, withHost, currentSettings, settingsOf}
+use Rattle.model.specs.Octets.{Octets, commandComplete, commandStatus, le32}
+use Rattle.model.specs.State.{Controller, Host, PlainHub, OpenCommand, withController, withHost, currentSettings, settingsOf}
 use Rattle.model.specs.Reasons.{Reason, statusOf, firstOf, lengthWrong}
-use Rattle.model.specs.Rules.{Immediate, refuse, done, ImmediateRule, RadioRule, newSettings}
-use Rattle.model.specs.Hub.{Outcome, finished, refused, badPacket, noRoom, badArgument, Verdict, anyway, unlessBusy, Result, keep, withOpen, answerOf, octetsOf, stateOf, refusalOctets, byStatus, refusalForm, immediateAt, immediateDone, radioAt, radioBeforeBusy, radioAfterBusy, acted}
+use Rattle.model.specs.Rules.{refuse, done, ImmediateRule, RadioRule, newSettings}
+use Rattle.model.specs.Hub.{Outcome, finished, refused, anyway, keep, withOpen, answerOf, octetsOf, stateOf, refusalOctets, byStatus, refusalForm, immediateAt, immediateDone, radioAt, radioBeforeBusy, radioAfterBusy, acted}
 use Rattle.model.specs.Layout.{encode, decode}
 use Rattle.model.specs.Meanings.{stateOk, laidOut}
 use Rattle.model.specs.Proof.Demand3.{state-back}
@@ -19,18 +19,11 @@ use Rattle.octets.specs.Parts.{writeAt, write-front}
 use Rattle.layout.specs.Places.{Ready, controllerOf, openAt, putController}
 use Rattle.replies.specs.Answers.{Gives, numberOf, countOf}
 use Rattle.replies.specs.declared.Answer.{Answer}
-use Rattle.replies.specs.declared.Answer.the-variants.{Done, Started, Refused, BadPacket, SmallBuffer, BadState, BadArgument, BadImage}
+use Rattle.replies.specs.declared.Answer.the-variants.{Done, Started, Refused}
 use Rattle.outcomes.specs.Outcomes.{ended, served, judged, contended}
+use Rattle.model.specs.Proof.Room.{length-complete, length-status}
 
 -- 1. Lengths ----------------------------------------------------------------------------------------------------------------------------------
-
-pub length-status : (i code status : ℕ) → length (commandStatus i code status) ≡ 9
-unfolding commandStatus event le16
-length-status i code status = refl
-
-pub length-complete : (i code status : ℕ) (ps : Octets) → length (commandComplete i code status ps) ≡ 9 + length ps
-unfolding commandComplete event le16
-length-complete i code status ps = omega arith
 
 -- 2. Any outcome ------------------------------------------------------------------------------------------------------------------------------
 
@@ -56,16 +49,19 @@ ends-done s out p n d d′ s′ r m e l w k = rw m (record { answer = refl; coun
 
 -- 3. Commands that are never Busy ---------------------------------------------------------------------------------------------------------------
 
+-- parameters of the right length: the rule's own act decides
 at-good : (p : PlainHub) (i code : ℕ) (ps : Octets) (q : ImmediateRule) (c : Controller) → q .size ps ≡ true
     → immediateAt p i code ps q (some c) ≡ immediateDone p i code ps (q .byAddress) c (q .act i c ps)
 unfolding immediateAt
 at-good p i code ps q c e = rw (e, immediateAt)
 
+-- parameters of another length: refused by Command Status, even of an address command
 at-length : (p : PlainHub) (i code : ℕ) (ps : Octets) (q : ImmediateRule) (c : Controller) → q .size ps ≡ false
     → immediateAt p i code ps q (some c) ≡ refused (byStatus i code) lengthWrong
 unfolding immediateAt
 at-length p i code ps q c e = rw (e, immediateAt)
 
+-- the address and type that a refusal repeats are seven octets
 length-take7 : (ps : Octets) → 7 ≤ length ps → length (take 7 ps) ≡ 7
 length-take7 ps h = simp length-take (omega arith)
 
@@ -101,17 +97,20 @@ module _ (s : Octets) (i code : ℕ) (ps : Octets) (q : ImmediateRule) (d d′ :
 
 -- 4. Settings commands that can be Busy ---------------------------------------------------------------------------------------------------------
 
+-- parameters of another length are refused, whatever is under way
 radio-length : (p : PlainHub) (i code : ℕ) (ps : Octets) (r : RadioRule) (c : Controller) → eqb (length ps) (r .size) ≡ false
     → radioAt p i code ps r (some c) ≡ anyway (refused (byStatus i code) lengthWrong)
 unfolding radioAt
 radio-length p i code ps r c e = rw (e, radioAt)
 
+-- of the right length, they come to the checks before Busy
 radio-good : (p : PlainHub) (i code : ℕ) (ps : Octets) (r : RadioRule) (c : Controller) → eqb (length ps) (r .size) ≡ true
     → radioAt p i code ps r (some c) ≡ radioBeforeBusy p i code ps r c (firstOf (r .beforeBusy (c .radio) ps))
 unfolding radioAt
 radio-good p i code ps r c e = rw (e, radioAt)
 
 module _ (s : Octets) (i code : ℕ) (ps : Octets) (u : RadioRule) (d d′ : Octets) (r : Answer) (given : Ready s i) (big : 1024 ≤ length d) where
+  -- the controller at the index
   abbrev here : Controller
   here = controllerOf s i
 

@@ -1,8 +1,8 @@
 -- What a call comes to over the lent state, part by part: the definitions that the contracts of the commands and calls cite. Each is the model's own
 -- word at the controller that stands there, laid out.
 use Prim.Native.Nat.{ℕ}
-use mathlib.Core.Bool.{Bool, true, false}
-use mathlib.Core.List.{List, [], _∷_}
+use mathlib.Core.Bool.{true, false}
+use mathlib.Core.List.{[]}
 use mathlib.Core.Option.{Option, none, some}
 use Rattle.model.specs.Octets.{Octets, commandStatus}
 use Rattle.model.specs.State.{PlainHub, OpenCommand, Hub}

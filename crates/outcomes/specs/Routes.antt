@@ -1,24 +1,21 @@
 -- The way from a call to the part that serves it: each test that the code makes, as one step of the model's meaning.
-use Prim.Native.Nat.{ℕ, zero, suc, _+_, _≤_, _<_}
-use mathlib.Core.Path.{_≡_, refl, sym, ap, _∙_}
+use Prim.Native.Nat.{ℕ, _≤_, _<_}
+use mathlib.Core.Path.{_≡_, refl, ap}
 use mathlib.Core.Bool.{Bool, true, false}
-use mathlib.Core.List.{List, [], _∷_, _++_}
 use mathlib.Core.Option.{Option, none, some}
-use lib.ListN.{length, getD}
-use lib.Dec.{eqb, ltb}
 use borrow.Author.Tests.{lt-ltb, le-ltb}
 use Rattle.model.specs.Octets.{Octets}
 use Rattle.model.specs.State.{PlainHub, OpenCommand, Hub, controllerAt}
 use Rattle.model.specs.declared.Hardware.{Hardware}
-use Rattle.model.specs.Reasons.{Reason, codeUnknown, controllerAbsent}
-use Rattle.model.specs.Rules.{ImmediateRule, RadioRule, Rule, immediate, radio}
+use Rattle.model.specs.Reasons.{codeUnknown, controllerAbsent}
+use Rattle.model.specs.Rules.{ImmediateRule, RadioRule, immediate, radio}
 use Rattle.model.specs.Rules.{general as generalRule}
 use Rattle.model.specs.Commands.{rule}
-use Rattle.model.specs.Hub.{Call, command, report, clock, plug, unplug, save, Outcome, finished, refused, badPacket, noRoom, badArgument, Verdict, anyway, unlessBusy, outcome, Result, call, keep, callPlain, commandOut, busyOr, underWay, openOf, indexOf, codeOf, paramsOf, packetOk, verdict, byRule, byStatus, immediateAt, radioAt, generalOut, reportOut, within, clockOut, plugOut, unplugOut, unplugged}
+use Rattle.model.specs.Hub.{Call, command, report, clock, plug, unplug, save, Outcome, finished, refused, badPacket, noRoom, Verdict, anyway, unlessBusy, call, callPlain, commandOut, busyOr, underWay, openOf, indexOf, codeOf, paramsOf, packetOk, verdict, byRule, byStatus, immediateAt, radioAt, within, clockOut, plugOut, unplugOut, unplugged}
 use Rattle.model.specs.Image.{image}
 use Rattle.model.specs.Layout.{decode}
 use Rattle.model.specs.Meanings.{stateOk, laidOut, meaning}
-use Rattle.layout.specs.Places.{Ready, controllerOf, openAt, presentAt}
+use Rattle.layout.specs.Places.{Ready, openAt, presentAt}
 use Rattle.layout.specs.Reads.{present-controller, absent-controller}
 use Rattle.outcomes.specs.Outcomes.{ended, general, served, judged, contended, dispatched, reported}
 
@@ -31,14 +28,17 @@ meaning-well s c e = rw (e, meaning)
 
 -- 2. Commands ---------------------------------------------------------------------------------------------------------------------------------
 
+-- a reply buffer under 1,024 octets is told before the packet is looked at
 verdict-small : (p : PlainHub) (room : ℕ) (packet : Octets) → room < 1024 → verdict p room packet ≡ anyway noRoom
 unfolding verdict
 verdict-small p room packet l = rw (lt-ltb room 1024 l, verdict)
 
+-- then a packet under six octets, or with a wrong length field
 verdict-bad : (p : PlainHub) (room : ℕ) (packet : Octets) → 1024 ≤ room → packetOk packet ≡ false → verdict p room packet ≡ anyway badPacket
 unfolding verdict
 verdict-bad p room packet l e = rw (le-ltb room 1024 l, verdict, e)
 
+-- else the rule of its code gives the verdict
 verdict-good : (p : PlainHub) (room : ℕ) (packet : Octets) → 1024 ≤ room → packetOk packet ≡ true
     → verdict p room packet ≡ byRule p (indexOf packet) (codeOf packet) (paramsOf packet) (rule (codeOf packet))
 unfolding verdict
@@ -61,10 +61,12 @@ pub command-small : (s : Octets) (room : ℕ) (packet : Octets) → stateOk s �
 unfolding call commandOut ended
 command-small s room packet ok l = rw (meaning-well s (command room packet) ok, verdict-small (decode s .plain) room packet l)
 
+-- with room for a reply, a packet that is not whole ends the call: answer 3
 pub command-bad : (s : Octets) (room : ℕ) (packet : Octets) → stateOk s ≡ true → 1024 ≤ room → packetOk packet ≡ false → meaning s (command room packet) ≡ ended s badPacket
 unfolding call commandOut ended
 command-bad s room packet ok l e = rw (meaning-well s (command room packet) ok, verdict-bad (decode s .plain) room packet l e)
 
+-- a whole packet goes on by its index, code and parameters
 pub command-whole : (s : Octets) (room : ℕ) (packet : Octets) → stateOk s ≡ true → 1024 ≤ room → packetOk packet ≡ true
     → meaning s (command room packet) ≡ dispatched s (indexOf packet) (codeOf packet) (paramsOf packet)
 unfolding call dispatched openAt underWay
@@ -77,76 +79,93 @@ pub route-unknown : (s : Octets) (i code : ℕ) (ps : Octets) → rule code ≡ 
 unfolding dispatched byRule judged ended
 route-unknown s i code ps e = rw e
 
+-- a general command asks for no controller
 pub route-general : (s : Octets) (i code : ℕ) (ps : Octets) (f : PlainHub → Octets) → rule code ≡ some (generalRule f) → dispatched s i code ps ≡ general s i code ps f
 unfolding dispatched byRule judged ended general
 route-general s i code ps f e = rw e
 
 module _ (s : Octets) (i code : ℕ) (ps : Octets) (q : ImmediateRule) (known : rule code ≡ some (immediate q)) where
+  -- a command that is never Busy is served by the controller at a present index
   pub route-immediate : Ready s i → dispatched s i code ps ≡ served s i code ps q
   unfolding dispatched byRule judged served ended
   route-immediate g = rw (known, present-controller s i g)
 
+  -- to an absent index it is Invalid Index
   pub route-immediate-absent : presentAt s i ≡ false → dispatched s i code ps ≡ ended s (refused (byStatus i code) controllerAbsent)
   unfolding dispatched byRule judged immediateAt ended
   route-immediate-absent e = rw (known, absent-controller s i e)
 
 module _ (s : Octets) (i code : ℕ) (ps : Octets) (r : RadioRule) (known : rule code ≡ some (radio r)) where
+  -- a settings command that can be Busy contends with what is under way at a present index
   pub route-radio : Ready s i → dispatched s i code ps ≡ contended s i code ps r
   unfolding dispatched byRule contended
   route-radio g = rw (known, present-controller s i g)
 
+  -- to an absent index it too is Invalid Index
   pub route-radio-absent : presentAt s i ≡ false → dispatched s i code ps ≡ ended s (refused (byStatus i code) controllerAbsent)
   unfolding dispatched byRule judged radioAt ended
   route-radio-absent e = rw (known, absent-controller s i e)
 
 -- 3. The other calls --------------------------------------------------------------------------------------------------------------------------
 
+-- a reply buffer shorter than the call needs: answer 4
 within-small : (need room : ℕ) (o : Outcome) → room < need → within need room o ≡ noRoom
 unfolding within
 within-small need room o l = rw (lt-ltb room need l, within)
 
+-- one that is long enough takes nothing from the outcome
 within-enough : (need room : ℕ) (o : Outcome) → need ≤ room → within need room o ≡ o
 unfolding within
 within-enough need room o l = rw (le-ltb room need l, within)
 
+-- a report with a reply buffer under 1,024 octets: answer 4, and the state as it was
 pub report-small : (s : Octets) (room i status : ℕ) → stateOk s ≡ true → room < 1024 → meaning s (report room i status) ≡ ended s noRoom
 unfolding call ended
 report-small s room i status ok l = rw (meaning-well s (report room i status) ok, lt-ltb room 1024 l, call)
 
+-- with room, a report meets what is under way at its index
 pub report-whole : (s : Octets) (room i status : ℕ) → stateOk s ≡ true → 1024 ≤ room → meaning s (report room i status) ≡ reported s i status
 unfolding call reported openAt underWay
 report-whole s room i status ok l = rw (meaning-well s (report room i status) ok, le-ltb room 1024 l, call)
 
+-- the same lack of room, of clock
 pub clock-small : (s : Octets) (room reading : ℕ) → stateOk s ≡ true → room < 1024 → meaning s (clock room reading) ≡ ended s noRoom
 unfolding call callPlain ended
 clock-small s room reading ok l = rw (meaning-well s (clock room reading) ok, within-small 1024 room (clockOut (decode s .plain) reading) l)
 
+-- with room, clock does what the at-once hub does, and leaves what is under way
 pub clock-whole : (s : Octets) (room reading : ℕ) → stateOk s ≡ true → 1024 ≤ room → meaning s (clock room reading) ≡ ended s (clockOut (decode s .plain) reading)
 unfolding call callPlain ended
 clock-whole s room reading ok l = rw (meaning-well s (clock room reading) ok, within-enough 1024 room (clockOut (decode s .plain) reading) l)
 
+-- the same lack of room, of plug
 pub plug-small : (s : Octets) (room i : ℕ) (f : Hardware) → stateOk s ≡ true → room < 1024 → meaning s (plug room i f) ≡ ended s noRoom
 unfolding call callPlain ended
 plug-small s room i f ok l = rw (meaning-well s (plug room i f) ok, within-small 1024 room (plugOut (decode s .plain) i f (controllerAt (decode s .plain) i)) l)
 
+-- with room, plug does what the at-once hub does, by what stands at the index
 pub plug-whole : (s : Octets) (room i : ℕ) (f : Hardware) → stateOk s ≡ true → 1024 ≤ room
     → meaning s (plug room i f) ≡ ended s (plugOut (decode s .plain) i f (controllerAt (decode s .plain) i))
 unfolding call callPlain ended
 plug-whole s room i f ok l = rw (meaning-well s (plug room i f) ok, within-enough 1024 room (plugOut (decode s .plain) i f (controllerAt (decode s .plain) i)) l)
 
+-- the same lack of room, of unplug
 pub unplug-small : (s : Octets) (room i : ℕ) → stateOk s ≡ true → room < 1024 → meaning s (unplug room i) ≡ ended s noRoom
 unfolding call callPlain ended unplugged
 unplug-small s room i ok l = rw (meaning-well s (unplug room i) ok, within-small 1024 room (unplugOut (decode s .plain) i (controllerAt (decode s .plain) i)) l)
 
+-- with room, unplug also writes the reply that a command under way is owed
 pub unplug-whole : (s : Octets) (room i : ℕ) → stateOk s ≡ true → 1024 ≤ room
     → meaning s (unplug room i) ≡ laidOut (unplugged (decode s) i (unplugOut (decode s .plain) i (controllerAt (decode s .plain) i)))
 unfolding call callPlain
 unplug-whole s room i ok l = rw (meaning-well s (unplug room i) ok, within-enough 1024 room (unplugOut (decode s .plain) i (controllerAt (decode s .plain) i)) l)
 
+-- save needs a reply buffer of 16,014 octets: with less, answer 4
 pub save-small : (s : Octets) (room : ℕ) → stateOk s ≡ true → room < 16014 → meaning s (save room) ≡ ended s noRoom
 unfolding call callPlain ended
 save-small s room ok l = rw (meaning-well s (save room) ok, within-small 16014 room (finished (image (decode s .plain)) (decode s .plain)) l)
 
+-- with room, save writes the image and changes nothing
 pub save-whole : (s : Octets) (room : ℕ) → stateOk s ≡ true → 16014 ≤ room → meaning s (save room) ≡ ended s (finished (image (decode s .plain)) (decode s .plain))
 unfolding call callPlain ended
 save-whole s room ok l = rw (meaning-well s (save room) ok, within-enough 16014 room (finished (image (decode s .plain)) (decode s .plain)) l)

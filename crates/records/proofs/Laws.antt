@@ -19,7 +19,7 @@ use Rattle.model.specs.Tables.{TableRule, any, blockedRule, deviceRule, distinc
 use Rattle.model.specs.Tables.{ruleAt}
 use Rattle.octets.specs.Parts.{part, length-part, getD-part}
 use Rattle.model.specs.Proof.Tables.{same-eq}
-use Rattle.model.specs.Proof.Tests.{and-true}
+use Rattle.model.specs.Proof.Tests.{and-true, and-off}
 use Rattle.records.specs.Marks.{markOf, marked, marked-more, marked-none, tellingOf}
 use lib.Bits.{bitOr}
 use Rattle.records.specs.Slots.{recordsAt, used-slot, free-slot, no-slots, no-more}
@@ -28,6 +28,7 @@ pub ruleset tests = (eq-eqb, ne-eqb, le-leb, lt-leb, le-ltb, lt-ltb)
 
 -- 1. The rule of each table -----------------------------------------------------------------------------------------------------------------
 
+-- the rule of a table by its number, a law for each of the six: UUIDs, link keys, long term keys, identity keys, blocked devices, devices
 pub rule0 : (k : ℕ) → k ≡ 0 → ruleAt k ≡ uuidRule
 unfolding ruleAt tableRules
 rule0 k e = rw e
@@ -61,6 +62,7 @@ pub size2 : (k : ℕ) → k ≡ 2 → ruleAt k .size ≡ 36
 unfolding longTermKeyRule
 size2 k e = rw (rule2 k e)
 
+-- a record of any table has at least seven octets, the length of an address and its type
 pub size-least : (k : ℕ) → k < 6 → 7 ≤ ruleAt k .size
 unfolding ruleAt tableRules uuidRule linkKeyRule longTermKeyRule identityKeyRule blockedRule deviceRule
 size-least zero l = omega arith
@@ -82,10 +84,12 @@ passes-cons c cs = go (c .fails)
     go true = refl
     go false = refl
 
+-- without a check nothing fails
 pub passes-none : passes [] ≡ true
 unfolding passes firstOf nothing
 passes-none = refl
 
+-- checks in two parts pass exactly if both parts do
 pub passes-append : (xs ys : List Check) → passes (xs ++ ys) ≡ passes xs && passes ys
 passes-append [] ys = rw passes-none
 passes-append (x ∷ xs) ys = passes-cons x (xs ++ ys) ∙ rw (passes-append xs ys, passes-cons x xs) (go (not (x .fails)) (passes xs) (passes ys))
@@ -94,6 +98,7 @@ passes-append (x ∷ xs) ys = passes-cons x (xs ++ ys) ∙ rw (passes-append xs 
     go true b c = refl
     go false b c = refl
 
+-- a check alone passes exactly if it does not fail
 one-check : (c : Check) → passes (c ∷ []) ≡ not (c .fails)
 unfolding passes firstOf nothing
 one-check c = go (c .fails)
@@ -102,6 +107,7 @@ one-check c = go (c .fails)
     go true = refl
     go false = refl
 
+-- the opposite of a test, for a check says what must not be: of a limit, of either of two tests, of an opposite
 not-ltb : (a b : ℕ) → not (ltb a b) ≡ leb b a
 not-ltb a b = go (ltb a b) refl
   where
@@ -123,21 +129,26 @@ unfolding part
 take-part s at m n h = take-take m n (drop at s) h
 
 module _ (s : Octets) (at : ℕ) where
+  -- a UUID: its 16 octets are not all zero
   pub uuid-is : passes (uuidRule .checks (part s at 17)) ≡ not (allZero (part s at 16))
   unfolding uuidRule
   uuid-is = rw (one-check, take-part s at 16 17 (omega arith))
 
+  -- a link key: address type 0, and a key type of at most 8
   pub link-key-is : passes (linkKeyRule .checks (part s at 25)) ≡ eqb (getD s (at + 6) 0) 0 && leb (getD s (at + 7) 0) 8
   unfolding linkKeyRule octet
   link-key-is = rw (passes-cons, one-check, getD-part s at 25 6 (omega arith), getD-part s at 25 7 (omega arith), twice-not, not-ltb)
 
+  -- an LE address: type 1 or 2, and with type 2 a sixth octet of at least 0xC0
   pub le-address-is : (n : ℕ) → 7 ≤ n → passes (leAddressChecks (part s at n)) ≡ (eqb (getD s (at + 6) 0) 1 || eqb (getD s (at + 6) 0) 2) && not (eqb (getD s (at + 6) 0) 2 && not (leb 192 (getD s (at + 5) 0)))
   unfolding leAddressChecks staticRandom octet
   le-address-is n h = rw (passes-cons, one-check, getD-part s at n 6 (omega arith), getD-part s at n 5 (omega arith), twice-not)
 
+  -- that rests on the first seven octets alone, however long the record is
   pub le-address-of : (n : ℕ) → 7 ≤ n → passes (leAddressChecks (part s at n)) ≡ passes (leAddressChecks (part s at 7))
   le-address-of n h = le-address-is n h ∙ sym (le-address-is 7 (omega arith))
 
+  -- a long term key: an LE address, a key type of at most 4, master 0 or 1, a key size of 7 to 16
   pub long-term-key-is : passes (longTermKeyRule .checks (part s at 36))
       ≡ passes (leAddressChecks (part s at 7)) && (not (ltb 4 (getD s (at + 7) 0)) && (not (ltb 1 (getD s (at + 8) 0)) && (not (ltb (getD s (at + 9) 0) 7) && leb (getD s (at + 9) 0) 16)))
   unfolding longTermKeyRule octet
@@ -154,14 +165,17 @@ module _ (s : Octets) (at : ℕ) where
     not-ltb 16 (getD s (at + 9) 0),
   )
 
+  -- an identity key: an LE address and nothing more
   pub identity-key-is : passes (identityKeyRule .checks (part s at 23)) ≡ passes (leAddressChecks (part s at 7))
   unfolding identityKeyRule
   identity-key-is = le-address-of 23 (omega arith)
 
+  -- a blocked device: an address that is not zero, of type 0 to 2
   pub blocked-is : passes (blockedRule .checks (part s at 7)) ≡ not (allZero (part s at 6)) && leb (getD s (at + 6) 0) 2
   unfolding blockedRule octet
   blocked-is = rw (passes-cons, one-check, take-part s at 6 7 (omega arith), getD-part s at 7 6 (omega arith), not-ltb)
 
+  -- a device: the same, with an action of 0 to 2, and with type 0 only action 1
   pub device-is : passes (deviceRule .checks (part s at 8))
       ≡ not (allZero (part s at 6)) && (not (ltb 2 (getD s (at + 6) 0)) && (not (ltb 2 (getD s (at + 7) 0)) && not (eqb (getD s (at + 6) 0) 0 && not (eqb (getD s (at + 7) 0) 1))))
   unfolding deviceRule octet
@@ -194,6 +208,7 @@ module _ (u : TableRule) (s : Octets) (size : ℕ) (e : size ≡ u .size) (at n 
   unfolding recordOk
   record-is h = rw (length-part s at size h, e, eq-eqb (u .size) (u .size) refl)
 
+  -- whether all records from a slot on keep their rule, by that slot: in use and fine, in use and not, free, no bit left, no slot left
   pub every-used : 0 < n → w % 2 ≡ 1 → at + size ≤ length s → passes (u .checks (part s at (u .size))) ≡ true
       → every (recordOk u) (recordsAt s size (at + size) (n - 1) (w / 2)) ≡ every (recordOk u) (recordsAt s size at n w)
   unfolding every
@@ -216,10 +231,6 @@ module _ (u : TableRule) (s : Octets) (size : ℕ) (e : size ≡ u .size) (at n 
 
 -- 4. Identities -----------------------------------------------------------------------------------------------------------------------------
 
-and-false : (a : Bool) → a && false ≡ false
-and-false true = refl
-and-false false = refl
-
 -- octets that differ somewhere are not the same
 differ : (a b : Octets) (k : ℕ) → (getD a k 0 ≡ getD b k 0 → ⊥) → same a b ≡ false
 differ a b k n = go (same a b) refl
@@ -229,6 +240,7 @@ differ a b k n = go (same a b) refl
     go false e = refl
 
 module _ (s : Octets) (a b : ℕ) where
+  -- so parts that differ in their octet k are not the same
   parts-differ : (m k : ℕ) → k < m → (getD s (a + k) 0 ≡ getD s (b + k) 0 → ⊥) → same (part s a m) (part s b m) ≡ false
   parts-differ m k l n = differ (part s a m) (part s b m) k (λ e. n (sym (getD-part s a m k l) ∙ e ∙ getD-part s b m k l))
 
@@ -236,6 +248,7 @@ module _ (s : Octets) (a b : ℕ) where
   abbrev pub Same : ℕ → Bool
   Same k = same (ruleAt k .key (part s a (ruleAt k .size))) (ruleAt k .key (part s b (ruleAt k .size)))
 
+  -- a UUID is identified by its 16 octets, so two that differ in the telling octet, the one at 12, are two
   pub uuid-same : (k : ℕ) → k ≡ 0 → same (part s a 16) (part s b 16) ≡ Same k
   unfolding uuidRule
   uuid-same k e = sym (rw (rule0 k e, take-part s a 16 17 (omega arith), take-part s b 16 17 (omega arith)))
@@ -248,6 +261,7 @@ module _ (s : Octets) (a b : ℕ) where
   unfolding longTermKeyRule octet same
   master k e = rw (rule2 k e, getD-part s a 36 8 (omega arith), getD-part s b 36 8 (omega arith), take-part s a 7 36 (omega arith), take-part s b 7 36 (omega arith))
 
+  -- so with one master the address and type tell, and with two masters the keys are two
   pub master-same : (k : ℕ) → k ≡ 2 → getD s (a + 8) 0 ≡ getD s (b + 8) 0 → same (part s a 7) (part s b 7) ≡ Same k
   master-same k e h = sym (master k e ∙ rw (eq-eqb (getD s (a + 8) 0) (getD s (b + 8) 0) h))
 
@@ -265,6 +279,7 @@ module _ (s : Octets) (a b : ℕ) where
   address-same (suc (suc (suc (suc (suc zero))))) l n m = sym (rw (take-part s a 7 8 (omega arith), take-part s b 7 8 (omega arith)))
   address-same (suc (suc (suc (suc (suc (suc k)))))) l n m = absurd (omega arith)
 
+  -- records of any table but the UUIDs whose addresses differ in the first octet are two
   pub address-differs : (k : ℕ) → k < 6 → (k ≡ 0 → ⊥) → (getD s a 0 ≡ getD s b 0 → ⊥) → false ≡ Same k
   address-differs k l n h = go (eqb k 2) refl
     where
@@ -272,12 +287,13 @@ module _ (s : Octets) (a b : ℕ) where
       f = parts-differ 7 0 (omega arith) (rw (add-zero, add-zero) h)
 
       go : (x : Bool) → eqb k 2 ≡ x → false ≡ Same k
-      go true e = sym (master k (eqb-true k 2 e) ∙ rw f (and-false (eqb (getD s (a + 8) 0) (getD s (b + 8) 0))))
+      go true e = sym (master k (eqb-true k 2 e) ∙ rw f (and-off (eqb (getD s (a + 8) 0) (getD s (b + 8) 0))))
       go false e = sym f ∙ address-same k l n (eqb-false k 2 e)
 
 -- 5. Repeats --------------------------------------------------------------------------------------------------------------------------------
 
 module _ (u : TableRule) (s mine : Octets) (size : ℕ) (e : size ≡ u .size) (at n w : ℕ) where
+  -- whether a record from a slot on has the identity `mine`, by that slot: in use with it, in use without, free, no bit left, no slot left
   pub any-hit : 0 < n → w % 2 ≡ 1 → same mine (u .key (part s at (u .size))) ≡ true → true ≡ any (same mine) (map (u .key) (recordsAt s size at n w))
   unfolding any
   any-hit l b h = sym (rw (used-slot s size at n w l b, e, h))
@@ -388,6 +404,7 @@ module _ (k : ℕ) (s : Octets) (place n w size at j seen : ℕ) (d : Down k s p
       let b : j - 1 + 1 ≡ j = omega arith in
       rw (a, half w (j - 1), b)
 
+  -- so the marks of their records are seen
   pub down-told : marked k seen (recordsAt s (ruleAt k .size) (at - size + ruleAt k .size) (n - j) (w / 2 ^ (j - 1) / 2)) ≡ true
   down-told = rw down-behind (d .told)
 
@@ -402,6 +419,7 @@ module _ (k : ℕ) (s : Octets) (place n w size at j seen : ℕ) (d : Down k s p
       let e : n - (j - 1) - 1 ≡ n - j = omega arith in
       free-slot s (ruleAt k .size) (at - size) (n - (j - 1)) (w / 2 ^ (j - 1)) (omega (arith, d .within)) b ∙ rw (e, down-behind)
 
+  -- a free slot: the loop goes on, with the same marks
   pub down-free : (w / 2 ^ (j - 1) % 2 ≡ 1 → ⊥) → Down k s place n w size (at - size) (j - 1) seen
   down-free b = record { sized = d .sized; within = omega (arith, d .within); placed = down-place; apart = rw (with-free b) (d .apart); told = rw (with-free b) (d .told) }
 
@@ -409,10 +427,12 @@ module _ (k : ℕ) (s : Octets) (place n w size at j seen : ℕ) (d : Down k s p
   abbrev pub Again : Bool
   Again = any (same (ruleAt k .key (part s (at - size) (ruleAt k .size)))) (map (ruleAt k .key) (recordsAt s (ruleAt k .size) (at - size + ruleAt k .size) (n - j) (w / 2 ^ (j - 1) / 2)))
 
+  -- the record and those behind it have no repeat exactly if it repeats none of them and they have none
   apart-is : (b : Bool) → Again ≡ b → distinct (map (ruleAt k .key) (part s (at - size) (ruleAt k .size) ∷ recordsAt s (ruleAt k .size) at (n - j) (w / 2 ^ j))) ≡ not b && distinct (map (ruleAt k .key) (recordsAt s (ruleAt k .size) at (n - j) (w / 2 ^ j)))
   unfolding distinct
   apart-is b e = let f : any (same (ruleAt k .key (part s (at - size) (ruleAt k .size)))) (map (ruleAt k .key) (recordsAt s (ruleAt k .size) at (n - j) (w / 2 ^ j))) ≡ b = rw down-behind at e in rw f
 
+  -- a record that is no repeat: the loop goes on, with its mark seen too
   pub down-used : (m : ℕ) → w / 2 ^ (j - 1) % 2 ≡ 1 → Again ≡ false → m ≡ markOf k (part s (at - size) (ruleAt k .size)) → m < 64
       → Down k s place n w size (at - size) (j - 1) (bitOr seen (1 * 2 ^ m % 18446744073709551616))
   down-used m b a q h = record {
@@ -423,6 +443,7 @@ module _ (k : ℕ) (s : Octets) (place n w size at j seen : ℕ) (d : Down k s p
     told = rw (with-used b) (marked-more k seen m _ _ q h (d .told));
   }
 
+  -- a record that is a repeat: then not all records of the table are distinct
   pub down-again : w / 2 ^ (j - 1) % 2 ≡ 1 → Again ≡ true → false ≡ distinct (map (ruleAt k .key) (recordsAt s (ruleAt k .size) place n w))
   down-again b a = go (distinct (map (ruleAt k .key) (recordsAt s (ruleAt k .size) place n w))) refl
     where
@@ -447,6 +468,7 @@ down-last k s place n w size at j seen d l =
 -- 7. Support --------------------------------------------------------------------------------------------------------------------------------
 
 module _ (k n : ℕ) (f : Hardware) (e : f .supported ≡ n) where
+  -- whether a controller supports the records of a table: link keys need BR/EDR, the two other keys LE, the rest nothing
   pub needs-bredr : k ≡ 1 → eqb (n / 128 % 2) 1 ≡ passes (ruleAt k .support f)
   unfolding linkKeyRule needsBredr bredrSupported bit
   needs-bredr h = sym (rw (rule1 k h, one-check, e, twice-not))

@@ -30,10 +30,11 @@ markOf k r = octet r (tellingOf k) % 64
 unfoldable pub marked : ℕ → ℕ → List Octets → Bool
 marked k seen rs = every (λ r. eqb (seen / 2 ^ markOf k r % 2) 1) rs
 
--- records of one identity have one mark
+-- octets that agree in their first n agree in each of those
 first-told : (n : ℕ) (a b : Octets) (i : ℕ) → i < n → take n a ≡ take n b → getD a i 0 ≡ getD b i 0
 first-told n a b i l e = sym (getD-take n a i 0 l) ∙ ap (λ (x : Octets). getD x i 0) e ∙ getD-take n b i 0 l
 
+-- records of one identity have one mark: the telling octet is part of the identity, in each of the six tables
 mark-same : (k : ℕ) (a b : Octets) → k < 6 → ruleAt k .key a ≡ ruleAt k .key b → markOf k a ≡ markOf k b
 unfolding ruleAt tableRules uuidRule linkKeyRule longTermKeyRule identityKeyRule blockedRule deviceRule markOf tellingOf octet
 mark-same zero a b l e = rw (first-told 16 a b 12 (omega arith) e)
@@ -64,16 +65,19 @@ max-left zero l = refl
 max-left (suc zero) l = refl
 max-left (suc (suc z)) l = absurd (omega arith)
 
+-- the same, of a set bit on the right
 max-right : (z : ℕ) → z < 2 → max z 1 ≡ 1
 max-right zero l = refl
 max-right (suc zero) l = refl
 max-right (suc (suc z)) l = absurd (omega arith)
 
+-- the lowest bit of a joined word is set where the first word has it
 low-left : (x y : ℕ) → x % 2 ≡ 1 → bitOr x y % 2 ≡ 1
 low-left x y e =
     let m : max 1 (y % 2) ≡ 1 = max-left (y % 2) (omega arith) in
     rw (or-step x y, e, m) (omega arith)
 
+-- the same, of the second word
 low-right : (x y : ℕ) → y % 2 ≡ 1 → bitOr x y % 2 ≡ 1
 low-right x y e =
     let m : max (x % 2) 1 ≡ 1 = max-right (x % 2) (omega arith) in

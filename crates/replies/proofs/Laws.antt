@@ -10,28 +10,21 @@ use lib.ListN.{length, drop, length-append}
 use lib.Dec.{eqb}
 use borrow.Author.Tests.{eq-eqb, ne-eqb}
 use Rattle.model.specs.Octets.{Octets, le16, le32, event, commandComplete, commandStatus}
-use Rattle.model.specs.State.{Controller, currentSettings, settingsOf}
-use Rattle.model.specs.Rules.{newSettings}
 use Rattle.model.specs.Hub.{Result}
 use Rattle.octets.specs.Parts.{writeAt, write-split, write-front}
 use Rattle.replies.specs.Frames.{eventHead, completeHead, changedEvent, settingsReply}
 use Rattle.replies.specs.Answers.{numberOf, countOf, Gives}
 use Rattle.replies.specs.declared.Answer.{Answer}
+use Rattle.model.specs.Proof.Room.{length-le16, length-le32}
 
 -- LENGTHS -------------------------------------------------------------------------------------------------------------------------------------
 
-pub length-le16 : (n : ℕ) → length (le16 n) ≡ 2
-unfolding le16
-length-le16 n = refl
-
-pub length-le32 : (n : ℕ) → length (le32 n) ≡ 4
-unfolding le32
-length-le32 n = refl
-
+-- the head of an event takes six: code, index and length
 pub length-event-head : (e i n : ℕ) → length (eventHead e i n) ≡ 6
 unfolding eventHead
 length-event-head e i n = simp (length-append, length-le16)
 
+-- the head of Command Complete takes nine: the event's, the command's code and the status
 pub length-complete-head : (i c s n : ℕ) → length (completeHead i c s n) ≡ 9
 unfolding completeHead
 length-complete-head i c s n = simp (length-append, length-le16, length-event-head)
@@ -44,28 +37,31 @@ pub event-is : (e i : ℕ) (ps : Octets) (n : ℕ) → length ps ≡ n → event
 unfolding event eventHead
 event-is e i ps n l = rw l (simp append-assoc)
 
+-- Command Status is an event with three octets: the command's code and the status
 pub status-is : (i c s : ℕ) → commandStatus i c s ≡ eventHead 0x0002 i 3 ++ (le16 c ++ (s ∷ []))
 unfolding commandStatus le16
 status-is i c s = event-is 0x0002 i (le16 c ++ (s ∷ [])) 3 refl
 
+-- Command Complete is its head and its return parameters
 pub complete-is : (i c s : ℕ) (ps : Octets) (n : ℕ) → length ps ≡ n → commandComplete i c s ps ≡ completeHead i c s n ++ ps
 unfolding commandComplete completeHead
 complete-is i c s ps n l =
     let m : length (le16 c ++ (s ∷ ps)) ≡ 3 + n = simp (length-append, length-le16) (omega arith) in
     event-is 0x0001 i (le16 c ++ (s ∷ ps)) (3 + n) m ∙ simp append-assoc
 
+-- an event is six octets longer than its parameters
 pub length-event : (e i : ℕ) (ps : Octets) (n : ℕ) → length ps ≡ n → length (event e i ps) ≡ 6 + n
 length-event e i ps n l = rw (event-is e i ps n l) (simp (length-append, length-event-head) (rw l))
 
+-- Command Complete is nine octets longer than its return parameters
 pub length-complete : (i c s : ℕ) (ps : Octets) (n : ℕ) → length ps ≡ n → length (commandComplete i c s ps) ≡ 9 + n
 length-complete i c s ps n l = rw (complete-is i c s ps n l) (simp (length-append, length-complete-head) (rw l))
 
-pub length-status : (i c s : ℕ) → length (commandStatus i c s) ≡ 9
-length-status i c s = rw (status-is i c s) (simp (length-append, length-event-head, length-le16))
-
+-- New Settings is ten octets long
 pub length-new-settings : (i w : ℕ) → length (event 0x0006 i (le32 w)) ≡ 10
 length-new-settings i w = length-event 0x0006 i (le32 w) 4 (length-le32 w)
 
+-- Command Complete with Current_Settings is 13 octets long
 pub length-settings-complete : (i c w : ℕ) → length (commandComplete i c 0 (le32 w)) ≡ 13
 length-settings-complete i c w = length-complete i c 0 (le32 w) 4 (length-le32 w)
 
@@ -75,28 +71,34 @@ length-settings-complete i c w = length-complete i c 0 (le32 w) 4 (length-le32 w
 pub then : (d : Octets) (at : ℕ) (a b : Octets) (k : ℕ) → at + length a ≡ k → writeAt (writeAt d at a) k b ≡ writeAt d at (a ++ b)
 then d at a b k e = sym (write-split d at a b ∙ rw e)
 
+-- so the head of an event, and its parameters six octets on, are a write of the event
 pub event-write : (d : Octets) (at e i : ℕ) (ps : Octets) (n : ℕ) → length ps ≡ n → writeAt (writeAt d at (eventHead e i n)) (at + 6) ps ≡ writeAt d at (event e i ps)
 event-write d at e i ps n l = then d at (eventHead e i n) ps (at + 6) (rw length-event-head) ∙ rw (event-is e i ps n l)
 
+-- the same, of Command Complete and its return parameters nine octets on
 pub complete-write : (d : Octets) (at i c s : ℕ) (ps : Octets) (n : ℕ) → length ps ≡ n
     → writeAt (writeAt d at (completeHead i c s n)) (at + 9) ps ≡ writeAt d at (commandComplete i c s ps)
 complete-write d at i c s ps n l = then d at (completeHead i c s n) ps (at + 9) (rw length-complete-head) ∙ rw (complete-is i c s ps n l)
 
 -- THE SETTINGS REPLY --------------------------------------------------------------------------------------------------------------------------
 
+-- where Current_Settings stay as they were, no event follows
 pub changed-none : (i a b : ℕ) → a ≡ b → changedEvent i a b ≡ []
 unfolding changedEvent
 changed-none i a b e = rw (eq-eqb a b e, changedEvent)
 
+-- where they change, New Settings follows
 pub changed-some : (i a b : ℕ) → (a ≡ b → ⊥) → changedEvent i a b ≡ event 0x0006 i (le32 b)
 unfolding changedEvent
 changed-some i a b e = rw (ne-eqb a b e, changedEvent)
 
+-- what the code writes where they stay: Command Complete with Current_Settings
 pub settings-same : (d : Octets) (i c old new : ℕ) → old ≡ new
     → writeAt (writeAt d 0 (completeHead i c 0 4)) 9 (le32 new) ≡ writeAt d 0 (settingsReply i c old new)
 unfolding settingsReply
 settings-same d i c old new e = complete-write d 0 i c 0 (le32 new) 4 (length-le32 new) ∙ rw (changed-none i old new e, append-nil)
 
+-- what it writes where they change: the same, and New Settings 13 octets on
 pub settings-new : (d : Octets) (i c old new : ℕ) → (old ≡ new → ⊥)
     → writeAt (writeAt (writeAt d 0 (completeHead i c 0 4)) 9 (le32 new)) 13 (event 0x0006 i (le32 new)) ≡ writeAt d 0 (settingsReply i c old new)
 unfolding settingsReply
@@ -104,10 +106,12 @@ settings-new d i c old new e =
     rw (complete-write d 0 i c 0 (le32 new) 4 (length-le32 new), changed-some i old new e)
     (then d 0 (commandComplete i c 0 (le32 new)) (event 0x0006 i (le32 new)) 13 (rw length-settings-complete))
 
+-- where they stay, the reply is 13 octets long
 pub length-same : (i c old new : ℕ) → old ≡ new → 13 ≡ length (settingsReply i c old new)
 unfolding settingsReply
 length-same i c old new e = rw (changed-none i old new e, append-nil) (sym (length-settings-complete i c new))
 
+-- where they change, it is 23 octets long
 pub length-new : (i c old new : ℕ) → (old ≡ new → ⊥) → 23 ≡ length (settingsReply i c old new)
 unfolding settingsReply
 length-new i c old new e = rw (changed-some i old new e, length-append, length-settings-complete i c new, length-new-settings i new)
@@ -121,11 +125,6 @@ settings-short i c old new = go (eqb old new)
     go true = rw (length-append, length-settings-complete i c new) (omega arith)
     go false = rw (length-append, length-settings-complete i c new, length-new-settings i new) (omega arith)
 
--- the model's New Settings of two controllers is that of their Current_Settings
-pub new-settings-is : (i : ℕ) (c d : Controller) → newSettings i c d ≡ changedEvent i (currentSettings (settingsOf c)) (currentSettings (settingsOf d))
-unfolding newSettings changedEvent
-new-settings-is i c d = refl
-
 -- THE REPLY BUFFER ----------------------------------------------------------------------------------------------------------------------------
 
 -- what was written at the front, and "octets past that count stay as they were": the field `reply` of Gives
@@ -136,8 +135,3 @@ gives-reply before after octets h e = e ∙ write-front before octets h
 pub gives-written : (o : Result Octets) (r : Answer) (before after left : Octets) → numberOf r ≡ o .answer → countOf r ≡ length (o .octets)
     → length (o .octets) ≤ length before → after ≡ writeAt before 0 (o .octets) → left ≡ o .state → Gives o r before after left
 gives-written o r before after left n k h w s = record { answer = n; count = k; reply = gives-reply before after (o .octets) h w; state = s }
-
--- a call that writes nothing
-pub gives-silent : (o : Result Octets) (r : Answer) (before left : Octets) → numberOf r ≡ o .answer → countOf r ≡ 0 → o .octets ≡ [] → left ≡ o .state
-    → Gives o r before before left
-gives-silent o r before left n k e s = record { answer = n; count = k ∙ rw e; reply = rw e; state = s }

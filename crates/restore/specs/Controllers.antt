@@ -1,5 +1,5 @@
 -- The controllers of an image, read one after the other and put into the state.
-use mathlib.Core.Path.{_≡_, refl, ap, sym, _∙_}
+use mathlib.Core.Path.{_≡_, refl, ap, _∙_}
 use Prim.Native.Nat.{ℕ, suc, _+_, _-_, _/_, _%_, _≤_, _<_}
 use native.Mathlib.Omega.{arith}
 use mathlib.Core.Bool.{true, false, _&&_}
@@ -13,23 +13,23 @@ use Rattle.model.specs.declared.RadioSettings.{RadioSettings}
 use Rattle.model.specs.declared.Settings.{Settings}
 use Rattle.model.specs.Octets.{Octets, bit, bytes, number}
 use Rattle.model.specs.State.{Controller, Table, hardwareOk, noTables, noTimer, plugged, withHost, withName, withTable}
-use Rattle.model.specs.Tables.{TableRule, tableRules}
+use Rattle.model.specs.Tables.{tableRules}
 use Rattle.model.specs.Image.{Parsed, controllerThen, flagsOk, nameOk, parseController, parseRadio, parseTables, radioOk}
-use Rattle.model.specs.WellFormed.{controllerOk, hardwareWide, tableOk, tablesOk, timerOk}
+use Rattle.model.specs.WellFormed.{controllerOk, hardwareWide, tablesOk, timerOk}
 use Rattle.model.specs.Hub.{underWay}
 use Rattle.model.specs.Layout.{decode, encode}
 use Rattle.model.specs.Meanings.{stateOk}
 use Rattle.model.specs.Proof.Demand3.{state-well}
 use Rattle.model.specs.Proof.Load.{controller-load, le-of, tested, then}
-use Rattle.model.specs.Proof.Parts.{controller-fit, fit-controller, fit-widths, widths-fit}
+use Rattle.model.specs.Proof.Parts.{controller-fit, fit-controller, fit-widths, widths-fit, tables-many}
 use Rattle.model.specs.Proof.Tables.{bytes-drop}
-use Rattle.model.specs.Proof.Tests.{and-true, both, equal, no-way}
+use Rattle.model.specs.Proof.Tests.{and-true, both, equal}
 use Rattle.octets.specs.Parts.{part}
 use Rattle.rules.specs.Effects.{withSettings}
 use Rattle.layout.specs.Places.{Ready, controllerOf, openAt, presentAt, putController}
 use Rattle.layout.specs.Reads.{absent-open}
-use Rattle.layout.specs.Filled.{plugged-fine}
 use Rattle.restore.specs.Filling.{Holds, found, found-some, held-controller, held-open, held-put, held-ready, some-found, withTables}
+use Rattle.model.specs.Proof.Stays.{plugged-ok}
 
 -- 1. The fixed part of a controller ---------------------------------------------------------------------------------------------------------------------
 
@@ -112,14 +112,6 @@ bare-fine c n e k z b =
       widths = fit-widths d (record { version = x .version; manufacturer = x .manufacturer; publicAddress = x .publicAddress; staticAddress = x .staticAddress; name = b; seconds = x .seconds });
     })
 
--- as many tables as rules
-tables-many : (f : Hardware) (us : List TableRule) (ts : List Table) → tablesOk f us ts ≡ true → length ts ≡ length us
-unfolding tablesOk
-tables-many f [] [] e = refl
-tables-many f [] (t ∷ ts) e = no-way (sym e)
-tables-many f (u ∷ us) [] e = no-way (sym e)
-tables-many f (u ∷ us) (t ∷ ts) e = ap suc (tables-many f us ts (and-true (tableOk u f t) _ e .1))
-
 -- a controller with tables from place k on has those in the places of the others
 with-tables : (c : Controller) (k : ℕ) (ts : List Table) → withTables c k ts ≡ record { radio = c .radio; host = record { settings = c .host .settings; name = c .host .name; tables = sets (c .host .tables) k ts } }
 unfolding withTables withHost withTable
@@ -154,7 +146,7 @@ module _ (s₀ : Octets) (i : ℕ) (o : Octets) (c : Parsed Controller) (ok : st
   -- what the hardware alone makes
   plug-fine : controllerOk (plugged (parseRadio o .hardware)) ≡ true
   unfolding controllerWith
-  plug-fine = plugged-fine (parseRadio o .hardware) (y .hardware) (hardware-wide (controllerWith o (take 260 (drop 23 o)) (y .tables .value)) read-fine)
+  plug-fine = plugged-ok (parseRadio o .hardware) (y .hardware) (hardware-wide (controllerWith o (take 260 (drop 23 o)) (y .tables .value)) read-fine)
 
   -- the address has six octets
   pub address-six : length (parseRadio o .hardware .publicAddress) ≡ 6

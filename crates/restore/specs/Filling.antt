@@ -21,8 +21,8 @@ use Rattle.model.specs.Proof.Demand3.{state-back, state-well}
 use Rattle.model.specs.Proof.Load.{le-of, tested, then}
 use Rattle.model.specs.Proof.Tables.{length-chop}
 use Rattle.model.specs.Tables.{ruleAt}
-use Rattle.model.specs.Proof.Tables.{bytes-chop, bytes-drop, loaded-ok, lt-true}
-use Rattle.model.specs.Proof.Tests.{and-true, both, no-way}
+use Rattle.model.specs.Proof.Tables.{bytes-chop, bytes-drop, loaded-ok}
+use Rattle.model.specs.Proof.Tests.{and-true, no-way}
 use Rattle.octets.specs.Parts.{writeAt}
 use Rattle.layout.specs.Places.{Ready, controllerOf, openAt, putController, tablePlace}
 use Rattle.layout.specs.Reads.{present-slot}
@@ -49,12 +49,6 @@ found-some (some a) e = (a, refl)
 pub some-found : {A : Type 0} (x : Option A) (a : A) → x ≡ some a → found x ≡ true
 unfolding found
 some-found x a e = rw e
-
--- octets of a slice are octets
-pub slice-bytes : (o : Octets) → ((k : ℕ) → getD o k 0 < 256) → bytes o ≡ true
-unfolding bytes
-slice-bytes [] h = refl
-slice-bytes (x ∷ o) h = both (lt-true x 256 (h 0)) (slice-bytes o (λ k. h (suc k)))
 
 -- the octet at a place, where octets are left from there on
 pub left-octet : (o : Octets) (p n : ℕ) (x : Octets) → drop p o ≡ n ∷ x → (p < length o) × (getD o p 0 ≡ n) × (drop (p + 1) o ≡ x) × (length o ≡ p + 1 + length x)
@@ -248,13 +242,6 @@ pub tables-first : (s : Octets) (i : ℕ) (image : Octets) (at : ℕ) → Ready 
 tables-first s i image at r o = record { known = λ m e. record { controller = controllerOf s i; left = m; held = held-now s i r o; parsed = e; whole = refl; behind = refl } }
 
 module _ (s₀ : Octets) (i : ℕ) (image : Octets) (at : ℕ) (w : bytes image ≡ true) (a : found (parseTables (controllerOf s₀ i .radio .hardware) tableRules (drop at image)) ≡ true) where
-  -- the index is present in a well-formed state
-  pub tables-ready : (s : Octets) (k p : ℕ) → TablesLeft s₀ i image at s k p → Ready s i
-  tables-ready s k p x =
-      let m = found-some (parseTables (controllerOf s₀ i .radio .hardware) tableRules (drop at image)) a in
-      let y = x .known (m .0) (m .1) in
-      held-ready (decode s₀) i s (y .controller) (y .held)
-
   -- the next table lies in the image
   pub tables-room : (s : Octets) (k p : ℕ) → k < 6 → TablesLeft s₀ i image at s k p → (p < length image) × (getD image p 0 ≤ 32) × (p + 1 + ruleAt k .size * getD image p 0 ≤ length image)
   tables-room s k p l x =

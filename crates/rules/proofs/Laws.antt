@@ -21,10 +21,12 @@ use Rattle.rules.specs.Effects.{settingsEffect, controllerOf, settingsTi
 
 -- TESTS ---------------------------------------------------------------------------------------------------------------------------------------
 
+-- a test whose opposite is known
 not-flip : (b c : Bool) → not b ≡ c → b ≡ not c
 not-flip true c e = rw (← e)
 not-flip false c e = rw (← e)
 
+-- a test and a true one are the test alone
 pub and-on : (b : Bool) → b ≡ (b && true)
 and-on true = refl
 and-on false = refl
@@ -36,9 +38,11 @@ both-zero r b e = not-flip (allZero (r .hardware .publicAddress) && allZero (r .
 
 -- EFFECTS -------------------------------------------------------------------------------------------------------------------------------------
 
+-- a choice whose test holds
 taken : {A : Type 0} (b : Bool) (x y : A) → b ≡ true → (elim b [ true ↦ x | false ↦ y ]) ≡ x
 taken b x y e = rw e
 
+-- the same, of a test that does not hold
 left : {A : Type 0} (b : Bool) (x y : A) → b ≡ false → (elim b [ true ↦ x | false ↦ y ]) ≡ y
 left b x y e = rw e
 
@@ -49,6 +53,7 @@ poweredTo m b = record {
   host = m .host;
 }
 
+-- the same, of connectable
 abbrev pub connectableTo : Settings → Bool → Settings
 connectableTo m b = record {
   radio = record { hardware = m .radio .hardware; powered = m .radio .powered; connectable = b; lowEnergy = m .radio .lowEnergy; staticAddress = m .radio .staticAddress };
@@ -63,6 +68,7 @@ powered-ends m ps t n e =
     let h : Host = controllerOf m .host in
     rw n (sym (ap (λ (h : Host). settingsOf (record { radio = withPowered (m .radio) (on ps); host = h })) (taken (not (on ps) && not (eqb (m .host .timer .seconds) 0)) (withTimer h noTimer) h e)))
 
+-- where it does not run, or power goes on: the timer stays as it is
 pub powered-stays : (m : Settings) (ps : Octets) → (not (eqb (getD ps 0 0) 1) && not (eqb (m .host .timer .seconds) 0)) ≡ false
     → poweredTo m (eqb (getD ps 0 0) 1) ≡ settingsEffect setPowered m ps
 unfolding settingsEffect controllerOf settingsOf setPowered withPowered withTimer on octet
@@ -77,6 +83,7 @@ connectable-on m ps e =
     let h : Host = controllerOf m .host in
     sym (ap (λ (h : Host). settingsOf (record { radio = withConnectable (m .radio) (on ps); host = h })) (taken (on ps) h (withTimer h noTimer) e))
 
+-- off: discoverable and its timer end too
 pub connectable-off : (m : Settings) (ps : Octets) (t : Timer) → t ≡ noTimer → eqb (getD ps 0 0) 1 ≡ false
     → settingsTimer (connectableTo m (eqb (getD ps 0 0) 1)) t ≡ settingsEffect setConnectable m ps
 unfolding settingsTimer settingsEffect controllerOf settingsOf setConnectable withConnectable withTimer on octet
@@ -108,11 +115,13 @@ pub runs-on : (step : ℕ) (t : Timer) → ends step t ≡ false → record { di
 unfolding countdown
 runs-on step t e = sym (left (ends step t) noTimer (record { discoverable = t .discoverable; seconds = t .seconds - step }) e)
 
+-- it does not run: it stays as it is
 pub stopped : (step : ℕ) (t : Timer) → ends step t ≡ false → t .seconds ≡ 0 → t ≡ countdown step t
 stopped step t e z =
     let n : t .seconds ≡ t .seconds - step = omega arith in
     ap (λ (s : ℕ). record { discoverable = t .discoverable; seconds = s }) n ∙ runs-on step t e
 
+-- it runs: it has more seconds left than the step
 pub more-left : (step : ℕ) (t : Timer) → ends step t ≡ false → (t .seconds ≡ 0 → ⊥) → step < t .seconds
 unfolding ends
 more-left step t e n = leb-false (t .seconds) step (rw (ne-eqb (t .seconds) 0 n) at e)

@@ -1,6 +1,6 @@
 -- How the decisions and effects of this crate stand to the model's rules: what a caller needs to say the model's words of a decision taken by value.
 -- Assumes nothing.
-use mathlib.Core.Path.{_≡_, refl, sym, _∙_}
+use mathlib.Core.Path.{_≡_, refl}
 use Prim.Native.Nat.{ℕ}
 use native.Mathlib.Omega.{arith}
 use mathlib.Core.Bool.{Bool, true, false, _&&_, not}
@@ -18,15 +18,17 @@ use Rattle.model.specs.Hub.{startsBy, countdown, tick}
 use Rattle.model.specs.WellFormed.{timerOk}
 use Rattle.rules.specs.Decisions.{waitOrAct, afterBusyOf, beforeBusyOf, decision, isWait, Fails, settingsOk}
 use Rattle.rules.specs.Effects.{withSettings, controllerOf, settingsEffect, OnlySettings, settingsTimer, settingsBondable}
-use Rattle.rules.specs.declared.Decision.{Decision}
 use Rattle.rules.specs.declared.Decision.the-variants.{Refuse, Reject, Wait, Act}
 
+-- 0 is not 1: for the cases in which one decision would be two
 clash : {A : Type 0} → _≡_ {A = ℕ} 0 1 → A
 clash e = absurd (omega arith)
 
 -- DECISIONS -----------------------------------------------------------------------------------------------------------------------------------
 
--- one lemma for each answer, over the first reason before Busy, the first after it, and whether the command waits
+-- One lemma for each answer, over the first reason before Busy, the first after it, and whether the command waits.
+
+-- a command waits if no reason stands and it is one that the radio carries out
 wait-test : (a b : Option Reason) (w : Bool) → (nothing a && (nothing b && w)) ≡ isWait (beforeBusyOf (afterBusyOf w b) a)
 unfolding nothing isWait beforeBusyOf afterBusyOf waitOrAct
 wait-test (some x) b w = refl
@@ -39,23 +41,10 @@ pub wait-is : (r : RadioRule) (x : RadioSettings) (ps : Octets) → (passes (r .
 unfolding passes decision
 wait-is r x ps = wait-test (firstOf (r .beforeBusy x ps)) (firstOf (r .afterBusy x ps)) (r .waits x ps)
 
+-- so with parameters of the right length a command would now be started exactly if the decision is to wait
 pub starts-is : (r : RadioRule) (x : RadioSettings) (ps : Octets) → length ps ≡ r .size → startsBy x ps (some (radio r)) ≡ isWait (decision r x ps)
 unfolding startsBy
 starts-is r x ps l = rw (eq-eqb (length ps) (r .size) l) (wait-is r x ps)
-
-waiting : (d : Decision) → isWait d ≡ true → d ≡ Wait
-unfolding isWait
-waiting (Refuse s) e = clash (cc)
-waiting (Reject s) e = clash (cc)
-waiting Wait e = refl
-waiting Act e = clash (cc)
-
-pub waits-then : (r : RadioRule) (x : RadioSettings) (ps : Octets) → decision r x ps ≡ Wait → (passes (r .beforeBusy x ps) && (passes (r .afterBusy x ps) && r .waits x ps)) ≡ true
-unfolding isWait
-waits-then r x ps e = wait-is r x ps ∙ rw e
-
-pub then-waits : (r : RadioRule) (x : RadioSettings) (ps : Octets) → (passes (r .beforeBusy x ps) && (passes (r .afterBusy x ps) && r .waits x ps)) ≡ true → decision r x ps ≡ Wait
-then-waits r x ps e = waiting (decision r x ps) (sym (wait-is r x ps) ∙ e)
 
 -- a decision tells which checks fail: what the model's verdict goes by
 refused : (cs ds : List Check) (w : Bool) (s : ℕ) (a b : Option Reason) → firstOf cs ≡ a → firstOf ds ≡ b → beforeBusyOf (afterBusyOf w b) a ≡ Refuse s → Fails cs s
@@ -65,10 +54,12 @@ refused cs ds w s none (some y) ea eb e = clash (cc)
 refused cs ds true s none none ea eb e = clash (cc)
 refused cs ds false s none none ea eb e = clash (cc)
 
+-- so of a command's rule: Refuse is the status of the first check before Busy that fails
 pub refuse-fails : (r : RadioRule) (x : RadioSettings) (ps : Octets) (s : ℕ) → decision r x ps ≡ Refuse s → Fails (r .beforeBusy x ps) s
 unfolding decision
 refuse-fails r x ps s e = refused (r .beforeBusy x ps) (r .afterBusy x ps) (r .waits x ps) s (firstOf (r .beforeBusy x ps)) (firstOf (r .afterBusy x ps)) refl refl e
 
+-- the same, of Reject: nothing fails before Busy, and a check after it does
 rejected : (cs ds : List Check) (w : Bool) (s : ℕ) (a b : Option Reason) → firstOf cs ≡ a → firstOf ds ≡ b → beforeBusyOf (afterBusyOf w b) a ≡ Reject s
     → (firstOf cs ≡ none) × Fails ds s
 unfolding beforeBusyOf afterBusyOf waitOrAct
@@ -77,10 +68,12 @@ rejected cs ds w s none (some y) ea eb e = (ea, record { reason = y; first = eb;
 rejected cs ds true s none none ea eb e = clash (cc)
 rejected cs ds false s none none ea eb e = clash (cc)
 
+-- so of a command's rule
 pub reject-fails : (r : RadioRule) (x : RadioSettings) (ps : Octets) (s : ℕ) → decision r x ps ≡ Reject s → (firstOf (r .beforeBusy x ps) ≡ none) × Fails (r .afterBusy x ps) s
 unfolding decision
 reject-fails r x ps s e = rejected (r .beforeBusy x ps) (r .afterBusy x ps) (r .waits x ps) s (firstOf (r .beforeBusy x ps)) (firstOf (r .afterBusy x ps)) refl refl e
 
+-- the same, of Wait and Act: nothing fails, and the rule says which of the two
 passed : (cs ds : List Check) (w v : Bool) (a b : Option Reason) → firstOf cs ≡ a → firstOf ds ≡ b → beforeBusyOf (afterBusyOf w b) a ≡ waitOrAct v
     → (firstOf cs ≡ none) × (firstOf ds ≡ none) × (w ≡ v)
 unfolding beforeBusyOf afterBusyOf waitOrAct
@@ -93,10 +86,12 @@ passed cs ds false false none none ea eb e = (ea, eb, refl)
 passed cs ds true false none none ea eb e = clash (cc)
 passed cs ds false true none none ea eb e = clash (cc)
 
+-- so of a command's rule where the decision is to wait
 pub wait-passes : (r : RadioRule) (x : RadioSettings) (ps : Octets) → decision r x ps ≡ Wait → (firstOf (r .beforeBusy x ps) ≡ none) × (firstOf (r .afterBusy x ps) ≡ none) × (r .waits x ps ≡ true)
 unfolding decision waitOrAct
 wait-passes r x ps e = passed (r .beforeBusy x ps) (r .afterBusy x ps) (r .waits x ps) true (firstOf (r .beforeBusy x ps)) (firstOf (r .afterBusy x ps)) refl refl e
 
+-- and where it is to act at once
 pub act-passes : (r : RadioRule) (x : RadioSettings) (ps : Octets) → decision r x ps ≡ Act → (firstOf (r .beforeBusy x ps) ≡ none) × (firstOf (r .afterBusy x ps) ≡ none) × (r .waits x ps ≡ false)
 unfolding decision waitOrAct
 act-passes r x ps e = passed (r .beforeBusy x ps) (r .afterBusy x ps) (r .waits x ps) false (firstOf (r .beforeBusy x ps)) (firstOf (r .afterBusy x ps)) refl refl e
@@ -107,6 +102,7 @@ act-passes r x ps e = passed (r .beforeBusy x ps) (r .afterBusy x ps) (r .waits 
 abbrev either : Bool → Host → Host → Host
 either b x y = elim b [ true ↦ x | false ↦ y ]
 
+-- a controller of radio settings and a host part
 abbrev made : RadioSettings → Host → Controller
 made r h = record { radio = r; host = h }
 
@@ -114,6 +110,7 @@ made r h = record { radio = r; host = h }
 abbrev bare : Controller → Host
 bare c = controllerOf (settingsOf c) .host
 
+-- Set Powered changes the settings alone, by the settings alone
 pub powered-only : (c : Controller) (ps : Octets) → OnlySettings setPowered c ps
 unfolding settingsEffect controllerOf settingsOf withSettings setPowered withPowered withTimer
 powered-only c ps = record { settings = settings (not (on ps) && not (eqb (c .host .settings .timer .seconds) 0)); whole = whole (not (on ps) && not (eqb (c .host .settings .timer .seconds) 0)) }
@@ -129,10 +126,12 @@ powered-only c ps = record { settings = settings (not (on ps) && not (eqb (c .ho
     whole true = refl
     whole false = refl
 
+-- the same, of Set Discoverable
 pub discoverable-only : (c : Controller) (ps : Octets) → OnlySettings setDiscoverable c ps
 unfolding settingsEffect controllerOf settingsOf withSettings setDiscoverable withTimer
 discoverable-only c ps = record { settings = refl; whole = refl }
 
+-- the same, of Set Connectable
 pub connectable-only : (c : Controller) (ps : Octets) → OnlySettings setConnectable c ps
 unfolding settingsEffect controllerOf settingsOf withSettings setConnectable withConnectable withTimer
 connectable-only c ps = record { settings = settings (on ps); whole = whole (on ps) }
@@ -148,10 +147,12 @@ connectable-only c ps = record { settings = settings (on ps); whole = whole (on 
     whole true = refl
     whole false = refl
 
+-- the same, of Set Low Energy
 pub low-energy-only : (c : Controller) (ps : Octets) → OnlySettings setLowEnergy c ps
 unfolding settingsEffect controllerOf settingsOf withSettings setLowEnergy withLowEnergy
 low-energy-only c ps = record { settings = refl; whole = refl }
 
+-- the same, of Set Static Address
 pub static-address-only : (c : Controller) (ps : Octets) → OnlySettings setStaticAddress c ps
 unfolding settingsEffect controllerOf settingsOf withSettings setStaticAddress withStaticAddress
 static-address-only c ps = record { settings = refl; whole = refl }
@@ -161,12 +162,14 @@ pub bondable-only : (c : Controller) (b : Bool) → withHost c (withBondable (c 
 unfolding withHost withBondable withSettings settingsBondable settingsOf
 bondable-only c b = refl
 
+-- the clock changes the timer alone
 pub tick-only : (step : ℕ) (c : Controller) → tick step c ≡ withSettings c (settingsTimer (settingsOf c) (countdown step (c .host .settings .timer)))
 unfolding tick withHost withTimer withSettings settingsTimer settingsOf
 tick-only step c = refl
 
 -- WELL FORMED ---------------------------------------------------------------------------------------------------------------------------------
 
+-- the three rules of discoverable, timer and power are seen in a controller's settings alone
 pub timer-ok-is : (c : Controller) → timerOk c ≡ settingsOk (settingsOf c)
 unfolding timerOk settingsOk settingsOf
 timer-ok-is c = refl

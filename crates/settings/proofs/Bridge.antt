@@ -46,10 +46,12 @@ reply-is i code c e = refl
 
 -- 2. Set Bondable ---------------------------------------------------------------------------------------------------------------------------------
 
+-- a value above 1 is refused
 bondable-bad : (i : ℕ) (c : Controller) (ps : Octets) → 1 < getD ps 0 0 → setBondable .act i c ps ≡ refuse valueAbove1
 unfolding setBondable octet firstOf unless
 bondable-bad i c ps h = rw (lt-ltb 1 (getD ps 0 0) h)
 
+-- 0 or 1 is done at once: Current_Settings is returned, and New Settings follows on change
 bondable-good : (i : ℕ) (c : Controller) (ps : Octets) → getD ps 0 0 ≤ 1
     → setBondable .act i c ps
     ≡ done (le32 (currentSettings (settingsOf (withHost c (withBondable (c .host) (on ps)))))) (newSettings i c (withHost c (withBondable (c .host) (on ps)))) (withBondable (c .host) (on ps))
@@ -61,14 +63,17 @@ bondable-one : (ps : Octets) → length ps ≡ 1 → setBondable .size ps ≡ tr
 unfolding setBondable sized
 bondable-one ps e = eq-eqb (length ps) 1 e
 
+-- any other number of octets fails the length test
 bondable-other : (ps : Octets) → (length ps ≡ 1 → ⊥) → setBondable .size ps ≡ false
 unfolding setBondable sized
 bondable-other ps e = ne-eqb (length ps) 1 e
 
+-- the code's test of the value is the model's
 on-is : (ps : Octets) → eqb (getD ps 0 0) 1 ≡ on ps
 unfolding on octet
 on-is ps = refl
 
+-- to set bondable in the host is to set it in the settings
 bondable-settings : (c : Controller) (b : Bool) → settingsOf (withHost c (withBondable (c .host) b)) ≡ settingsBondable (settingsOf c) b
 unfolding settingsOf withHost withBondable settingsBondable
 bondable-settings c b = refl
@@ -106,6 +111,7 @@ module _ (s : Octets) (i code : ℕ) (ps : Octets) (u : RadioRule) (d d′ : Oct
   ends-length n z e a w = contended-length s i code ps u d d′ r given big (ne-eqb (length ps) (u .size) (λ q. e (q ∙ sym z))) a w
 
   module _ (x : Decision) (old new : Settings) (f : Follows u s i ps x old new) where
+    -- the parameters pass the length test of the rule
     size : eqb (length ps) (u .size) ≡ true
     size = eq-eqb (length ps) (u .size) (f .sized)
 
@@ -149,12 +155,15 @@ module _ (s : Octets) (i code : ℕ) (ps : Octets) (u : RadioRule) (d d′ : Oct
 
 -- a decision of another kind is past the checks before Busy
 module _ (s : Octets) (i : ℕ) (ps : Octets) (u : RadioRule) (x : Decision) (old new : Settings) (f : Follows u s i ps x old new) where
+  -- a command that would be Rejected has passed the checks before Busy
   pub reject-past : (st : ℕ) → x ≡ Reject st → firstOf (u .beforeBusy (controllerOf s i .radio) ps) ≡ none
   reject-past st e = reject-fails u (controllerOf s i .radio) ps st (f .decided ∙ e) .0
 
+  -- the same, of one that would wait for the radio
   pub wait-past : x ≡ Wait → firstOf (u .beforeBusy (controllerOf s i .radio) ps) ≡ none
   wait-past e = wait-passes u (controllerOf s i .radio) ps (f .decided ∙ e) .0
 
+  -- the same, of one that would act at once
   pub act-past : x ≡ Act → firstOf (u .beforeBusy (controllerOf s i .radio) ps) ≡ none
   act-past e = act-passes u (controllerOf s i .radio) ps (f .decided ∙ e) .0
 
@@ -171,22 +180,27 @@ concluded s i code ps u d d′ s′ r x old new n only z l eo ex en all =
     let y : decision u (c .radio) ps ≡ x = sym (ex ∙ rw eo) in
     all u (record { sized = l ∙ z; decided = y; before = eo; after = only .settings ∙ a; whole = only .whole ∙ rw a })
 
+-- Set Powered takes one octet of parameters, the value
 pub powered-size : 1 ≡ setPowered .size
 unfolding setPowered
 powered-size = refl
 
+-- Set Discoverable takes three, the value and the timeout
 pub discoverable-size : 3 ≡ setDiscoverable .size
 unfolding setDiscoverable
 discoverable-size = refl
 
+-- Set Connectable takes one, the value
 pub connectable-size : 1 ≡ setConnectable .size
 unfolding setConnectable
 connectable-size = refl
 
+-- Set Low Energy takes one, the value
 pub low-energy-size : 1 ≡ setLowEnergy .size
 unfolding setLowEnergy
 low-energy-size = refl
 
+-- Set Static Address takes six, the address
 pub static-address-size : 6 ≡ setStaticAddress .size
 unfolding setStaticAddress
 static-address-size = refl

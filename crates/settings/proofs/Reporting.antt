@@ -30,13 +30,14 @@ use Rattle.replies.specs.Answers.{Gives}
 use Rattle.replies.specs.Frames.{settingsReply}
 use Rattle.replies.specs.declared.Answer.{Answer}
 use Rattle.replies.specs.declared.Answer.the-variants.{Done, BadArgument}
-use Rattle.replies.proofs.Laws.{gives-written, settings-short, length-status}
+use Rattle.replies.proofs.Laws.{gives-written, settings-short}
 use Rattle.rules.specs.Effects.{withSettings, settingsEffect, OnlySettings}
 use Rattle.rules.proofs.Ties.{powered-only, discoverable-only, connectable-only, low-energy-only}
 use Rattle.outcomes.specs.Outcomes.{ended, reported}
 use Rattle.outcomes.specs.Endings.{ends-silent}
 use Rattle.settings.specs.Opens.{Opens, opens-powered, opens-discoverable, opens-connectable, opens-low-energy, Makes}
 use Rattle.settings.proofs.Bridge.{reply-is}
+use Rattle.model.specs.Proof.Room.{length-status}
 
 -- 1. Which command can be under way ---------------------------------------------------------------------------------------------------------------
 
@@ -50,17 +51,21 @@ pub record Opened (code : ℕ) (x : Rule) : Type 0 where
 abbrev Held : ℕ → Rule → Type 0
 Held code x = (r : RadioSettings) (ps : Octets) → startsBy r ps (some x) ≡ true → Opened code x
 
+-- a general command is never started
 held-general : (code : ℕ) (f : PlainHub → Octets) → Held code (general f)
 unfolding startsBy
 held-general code f r ps e = no-way (sym e)
 
+-- nor is one that is never Busy
 held-immediate : (code : ℕ) (q : ImmediateRule) → Held code (immediate q)
 unfolding startsBy
 held-immediate code q r ps e = no-way (sym e)
 
+-- the four are as asked, whatever their parameters
 held-radio : (code : ℕ) (u : RadioRule) → Opens code u → Held code (radio u)
 held-radio code u o r ps e = record { by = u; kind = refl; opens = o }
 
+-- Set Static Address can be Busy, but never waits itself
 held-static : Held 0x002B (radio setStaticAddress)
 unfolding startsBy setStaticAddress
 held-static r ps e =
@@ -69,10 +74,12 @@ held-static r ps e =
     let d = and-true (passes (setStaticAddress .afterBusy r ps)) _ (b .1) in
     no-way (sym (d .1))
 
+-- the same is asked of each row of a list
 unfoldable AllHeld : List Row → Type 0
 AllHeld [] = Unit {0}
 AllHeld (x ∷ xs) = Held (x .0) (x .1) × AllHeld xs
 
+-- every row of the commands is as asked
 all-held : AllHeld rows
 unfolding AllHeld rows
 all-held = (
@@ -137,6 +144,7 @@ all-held = (
   ),
 )
 
+-- so the rule found for a code is as asked
 found : (code : ℕ) (xs : List Row) (x : Rule) → AllHeld xs → find code xs ≡ some x → Held code x
 unfolding find AllHeld
 found code [] x a e = let z : _≡_ {A = ℕ} 0 1 = cc in absurd (omega arith)
@@ -152,6 +160,7 @@ pub record Waiting (code : ℕ) : Type 0 where
   pub known : rule code ≡ some (radio by)
   pub opens : Opens code by
 
+-- a code whose command would be started has the rule of one of the four
 waiting-by : (r : RadioSettings) (code : ℕ) (ps : Octets) (x : Option Rule) → rule code ≡ x → startsBy r ps x ≡ true → Waiting code
 unfolding startsBy rule
 waiting-by r code ps none e s = no-way (sym s)
@@ -220,10 +229,12 @@ past a b c d (suc (suc zero)) n = absurd (n (omega arith))
 past a b c d (suc (suc (suc zero))) n = absurd (n (omega arith))
 past a b c d (suc (suc (suc (suc i)))) n = refl
 
+-- an index above 3 has no block, and nothing is under way there
 none-past : (s : Octets) (i : ℕ) → (i < 4 → ⊥) → openAt s i ≡ none
 unfolding openAt decode opensIn
 none-past s i n = past _ _ _ _ i n
 
+-- nor is anything at any other absent index
 none-absent : (s : Octets) (i : ℕ) → presentAt s i ≡ false → openAt s i ≡ none
 none-absent s i e = go (ltb i 4) refl
   where
@@ -236,14 +247,17 @@ report-none : (s : Octets) (i status : ℕ) → openAt s i ≡ none → reported
 unfolding reported reportOut ended
 report-none s i status e = rw e
 
+-- a status above 0x14: answer 6, and the command stays under way
 out-above : (h : Hub) (i status : ℕ) (o : OpenCommand) → 0x14 < status → reportOut h i status (some o) ≡ keep h badArgument
 unfolding reportOut
 out-above h i status o l = rw (lt-ltb 0x14 status l, reportOut)
 
+-- status 0: the command is no longer under way, and acts
 out-done : (h : Hub) (i status : ℕ) (o : OpenCommand) → status ≡ 0 → reportOut h i status (some o) ≡ keep (withOpen h i none) (finish (h .plain) i o)
 unfolding reportOut
 out-done h i status o e = rw e
 
+-- status 0x01 to 0x14: Command Status with it, and the command is dropped
 out-failed : (h : Hub) (i status : ℕ) (o : OpenCommand) → status ≤ 0x14 → (status ≡ 0 → ⊥)
     → reportOut h i status (some o) ≡ record { answer = 0; octets = commandStatus i (o .code) status; state = withOpen h i none }
 unfolding reportOut
@@ -255,6 +269,7 @@ finish-is : (p : PlainHub) (i : ℕ) (o : OpenCommand) (u : RadioRule) (c : Cont
 unfolding finish finishBy
 finish-is p i o u c k e = rw (k, e)
 
+-- an open command has as many parameter octets as its rule says
 size-is : (code : ℕ) (u : RadioRule) → rule code ≡ some (radio u) → sizeOf (rule code) ≡ u .size
 unfolding sizeOf
 size-is code u e = rw e
@@ -264,18 +279,21 @@ nothing-fine : (c : Controller) → openOk (some c) none ≡ true
 unfolding openOk
 nothing-fine c = refl
 
+-- a state whose open command is cleared is well formed, and the index is still present
 pub cleared-ready : (s s₁ : Octets) (i : ℕ) → Ready s i → s₁ ≡ encode (withOpen (decode s) i none) → Ready s₁ i
 cleared-ready s s₁ i g e = rw e (opened-ready s i g none (nothing-fine (controllerOf s i)))
 
--- nothing is under way, or the status is none: 6
+-- no controller is there, so nothing is under way: 6
 pub report-absent : (s d : Octets) (i status : ℕ) → stateOk s ≡ true → presentAt s i ≡ false → Gives (reported s i status) BadArgument d d s
 unfolding answerOf octetsOf stateOf
 report-absent s d i status ok e = rw (report-none s i status (none-absent s i e)) (ends-silent s d badArgument BadArgument ok refl refl refl refl)
 
+-- the same, of a present index with nothing under way
 pub report-idle : (s d : Octets) (i status : ℕ) → Ready s i → u16 s (placeOf i 1) ≡ 0 → Gives (reported s i status) BadArgument d d s
 unfolding answerOf octetsOf stateOf
 report-idle s d i status g e = rw (report-none s i status (open-nothing s i g e)) (ends-silent s d badArgument BadArgument (g .ok) refl refl refl refl)
 
+-- the same, of a command under way and a status above 0x14
 pub report-above : (s d : Octets) (i status : ℕ) → Ready s i → (u16 s (placeOf i 1) ≡ 0 → ⊥) → 0x14 < status → Gives (reported s i status) BadArgument d d s
 unfolding reported ended answerOf octetsOf stateOf
 report-above s d i status g e l = rw (open-command s i g e, out-above (decode s) i status _ l) (ends-silent s d badArgument BadArgument (g .ok) refl refl refl refl)
@@ -293,11 +311,13 @@ report-failed s d d′ s′ i status code g big ec n l z w k =
 openOf : ℕ → Octets → OpenCommand
 openOf code ps = record { code = code; params = ps }
 
+-- it is read where it lies: its code, then as many octets as a command of that code has
 open-read : (s : Octets) (i : ℕ) → Ready s i → (u16 s (placeOf i 1) ≡ 0 → ⊥)
     → openAt s i ≡ some (openOf (u16 s (placeOf i 1)) (part s (placeOf i 1 + 2) (sizeOf (rule (u16 s (placeOf i 1))))))
 unfolding openOf
 open-read s i g n = open-command s i g n
 
+-- the same, of a code and a place that were read before
 open-as : (s : Octets) (i at code : ℕ) → Ready s i → code ≡ u16 s (placeOf i 1) → at ≡ placeOf i 1 + 2 → (code ≡ 0 → ⊥) → openAt s i ≡ some (openOf code (part s at (sizeOf (rule code))))
 open-as s i at code g ec ea n = rw (ec, ea) (open-read s i g (λ q. n (ec ∙ q)))
 
@@ -318,6 +338,7 @@ reply-of : (i code : ℕ) (c e : Controller) (old new : Settings) → old ≡ se
     → settingsReply i code (currentSettings old) (currentSettings new) ≡ commandComplete i code 0 (le32 (currentSettings (settingsOf e))) ++ newSettings i c e
 reply-of i code c e old new eo en = rw (eo, ← en) (reply-is i code c e)
 
+-- to clear the open command and then write the settings is one change of the hub
 state-of : (s s₁ s′ : Octets) (i : ℕ) → Ready s i → (e : Controller) (new : Settings) → s₁ ≡ encode (withOpen (decode s) i none)
     → s′ ≡ encode (putController (decode s₁) i (withSettings (controllerOf s₁ i) new)) → e ≡ withSettings (controllerOf s i) new
     → s′ ≡ encode (putController (withOpen (decode s) i none) i e)

@@ -34,9 +34,11 @@ rest-room size n l = let e : n + (32 - n) ≡ 32 = omega arith in sym (mul-add s
 pub one-shl : (k : ℕ) → k < 32 → 1 * 2 ^ k % 4294967296 ≡ 2 ^ k
 one-shl k h = shl-exact {a = 1} 1 k 32 (omega arith) (omega arith) ∙ one-mul (2 ^ k)
 
+-- the same in a word of 64 bits, where a shift by 32 is exact too
 pub one-shl64 : (k : ℕ) → k ≤ 32 → 1 * 2 ^ k % 18446744073709551616 ≡ 2 ^ k
 one-shl64 k h = shl-exact {a = 1} 1 k 64 (omega arith) (omega arith) ∙ one-mul (2 ^ k)
 
+-- so one may be taken from it: the bits below are left
 pub one-le-shl64 : (k : ℕ) → k ≤ 32 → 1 ≤ 1 * 2 ^ k % 18446744073709551616
 one-le-shl64 k h = rw (one-shl64 k h) (pow-pos k)
 
@@ -44,9 +46,11 @@ one-le-shl64 k h = rw (one-shl64 k h) (pow-pos k)
 pub zeros-fit : (w : ℕ) → Fits w64 (trailingZeros 32 w)
 zeros-fit w = omega (arith, trailing-le 32 w)
 
+-- the same, of two words joined by or
 pub or-fits : (w b : ℕ) → w < 4294967296 → b < 4294967296 → Fits w64 (bitOr w b)
 or-fits w b h l = omega (arith, or-lt 32 w b h l)
 
+-- the same, of a word that is masked
 pub and-fits : (w b : ℕ) → w < 4294967296 → Fits w64 (bitAnd w b)
 and-fits w b h = omega (arith, and-le-l w b)
 
@@ -59,6 +63,7 @@ free-full s at size w e l f =
 
 -- writes ------------------------------------------------------------------------------------------------------------------------------------------
 
+-- the record over slot k and its bit joined into the word: the table with the record in that slot
 pub store-done : (s a b : Octets) (at size k : ℕ) (x : Octets) (w : ℕ) → at + (4 + size * 32) ≤ length s → Canonical s at size → k < 32 → length x ≡ size → w ≡ u32 s at → w < 4294967296
     → a ≡ writeAt s (at + (4 + size * k)) x → b ≡ writeAt a at (le32 (bitOr w (1 * 2 ^ k % 4294967296)))
     → b ≡ writeAt s at (region size (set (tableAt s at size) k (some x)))
@@ -67,6 +72,7 @@ store-done s a b at size k x w h c l n e u p q =
     let g : b ≡ writeAt (writeAt s (at + (4 + size * k)) x) at (le32 (bitOr (u32 s at) (2 ^ k))) = rw (← f, ← e, ← p) q in
     g ∙ store-changed s at size k x h c l n (omega arith)
 
+-- zeros over slot k and its bit masked out of the word: the table with that slot free
 pub release-done : (s a b : Octets) (at size k w : ℕ) → at + (4 + size * 32) ≤ length s → Canonical s at size → k < 32 → w ≡ u32 s at → w < 4294967296
     → a ≡ writeAt s (at + (4 + size * k)) (replicate size 0) → b ≡ writeAt a at (le32 (bitAnd w (4294967295 - 1 * 2 ^ k % 4294967296)))
     → b ≡ writeAt s at (region size (set (tableAt s at size) k none))
@@ -75,6 +81,7 @@ release-done s a b at size k w h c l e u p q =
     let g : b ≡ writeAt (writeAt s (at + (4 + size * k)) (replicate size 0)) at (le32 (bitAnd (u32 s at) (4294967295 - 2 ^ k))) = rw (← f, ← e, ← p) q in
     g ∙ release-changed s at size k h c l (omega arith)
 
+-- n ones as the word, the records of a list, zeros behind them: the list loaded
 pub load-done : (s a b d : Octets) (at size : ℕ) (src : Octets) (from n : ℕ) → n ≤ 32 → from + size * n ≤ length src
     → a ≡ writeAt s at (le32 (1 * 2 ^ n % 18446744073709551616 - 1)) → b ≡ writeAt a (at + 4) (part src from (size * n)) → d ≡ writeAt b (at + (4 + size * n)) (replicate (size * (32 - n)) 0)
     → d ≡ writeAt s at (region size (loaded (chop size n (drop from src))))
@@ -97,6 +104,7 @@ next-some-at s at k w h e l n =
     positive zero f = absurd (f refl)
     positive (suc v) f = omega arith
 
+-- no bit is left in the word: there is no next slot in use
 pub next-none-at : (s : Octets) (at k w : ℕ) → k ≤ 32 → w ≡ u32 s at → w / 2 ^ k ≡ 0 → ((size : ℕ) → NextUsed s at size k 32) × (k ≤ 32) × (32 ≤ 32)
 next-none-at s at k w h e n = (λ size. next-none s at size k h (rw e at n), h, omega arith)
 
@@ -109,14 +117,17 @@ first-cons : (m : Octets → Bool) (x : Octets) (t : Table) (b : Bool) → m x �
 unfolding firstAt
 first-cons m x t b e = ap (λ (c : Bool). elim c [ true ↦ 0 | false ↦ suc (firstAt m t) ]) e
 
+-- a record that lies at a place begins with the key exactly if the octets there are the key's
 begins-part : (s key : Octets) (place size n : ℕ) → n ≤ size → begins n key (part s place size) ≡ same (part key 0 n) (part s place n)
 unfolding begins part
 begins-part s key place size n l = rw (take-take n size (drop place s) l)
 
 module _ (s key : Octets) (at size n : ℕ) where
+  -- what the search keeps: no slot before k matches
   abbrev pub Left : ℕ → Type 0
   Left k = k + firstAt (begins n key) (drop k (tableAt s at size)) ≡ firstAt (begins n key) (tableAt s at size)
 
+  -- a slot in use is the first match itself, or the first match is behind it
   here : (k : ℕ) → n ≤ size → InUse s at size k
       → firstAt (begins n key) (drop k (tableAt s at size))
       ≡ elim (same (part key 0 n) (part s (at + (4 + size * k)) n)) [ true ↦ 0 | false ↦ suc (firstAt (begins n key) (drop (k + 1) (tableAt s at size))) ]
@@ -124,20 +135,24 @@ module _ (s key : Octets) (at size n : ℕ) where
       let p : ℕ = at + (4 + size * k) in
       rw u (first-cons (begins n key) (part s p size) (drop (k + 1) (tableAt s at size)) (same (part key 0 n) (part s p n)) (begins-part s key p size n l))
 
+  -- it starts at the first slot in use
   pub left-first : (r : ℕ) → NextUsed s at size 0 r → Left r
   left-first r u = let e = next-first s at size 0 r u (begins n key) in omega arith
 
+  -- a record that begins with the key: it is the first match
   pub left-hit : (k : ℕ) → n ≤ size → InUse s at size k → same (part key 0 n) (part s (at + (4 + size * k)) n) ≡ true → Left k → k ≡ firstAt (begins n key) (tableAt s at size)
   left-hit k l u h e =
       let f : firstAt (begins n key) (drop k (tableAt s at size)) ≡ 0 = rw h at (here k l u) in
       omega arith
 
+  -- one that does not: the search goes on at the next slot in use
   pub left-miss : (k r : ℕ) → n ≤ size → InUse s at size k → same (part key 0 n) (part s (at + (4 + size * k)) n) ≡ false → NextUsed s at size (k + 1) r → k + 1 ≤ r → Left k → Left r
   left-miss k r l u h v g e =
       let f : firstAt (begins n key) (drop k (tableAt s at size)) ≡ suc (firstAt (begins n key) (drop (k + 1) (tableAt s at size))) = rw h at (here k l u) in
       let d = next-first s at size (k + 1) r v (begins n key) in
       omega arith
 
+  -- past the last slot: nothing matches
   pub left-none : (k : ℕ) → k ≤ 32 → 32 ≤ k → Left k → 32 ≡ firstAt (begins n key) (tableAt s at size)
   unfolding firstAt
   left-none k l m e =
@@ -149,12 +164,15 @@ module _ (s key : Octets) (at size n : ℕ) where
 or-half : (a b : ℕ) → bitOr a b / 2 ≡ bitOr (a / 2) (b / 2)
 or-half a b = omega (arith, or-step a b)
 
+-- their lowest bits are joined
 or-odd : (a b : ℕ) → bitOr a b % 2 ≡ max (a % 2) (b % 2)
 or-odd a b = omega (arith, or-step a b)
 
+-- for a lowest bit it is all one which two are joined first
 max-last : (w a b c : ℕ) → w + max (max a b) c ≡ w + max a (max b c)
 max-last w a b c = omega arith
 
+-- so it is for whole words
 or-assoc : (a b c : ℕ) → bitOr (bitOr a b) c ≡ bitOr a (bitOr b c)
 or-assoc a = bin-ind (λ (n : ℕ). (b c : ℕ) → bitOr (bitOr n b) c ≡ bitOr n (bitOr b c)) (λ b c. refl) step a
   where
@@ -166,12 +184,15 @@ or-assoc a = bin-ind (λ (n : ℕ). (b c : ℕ) → bitOr (bitOr n b) c ≡ bitO
         x ∙ rw z (max-last (bitOr (n / 2) (bitOr (b / 2) (c / 2)) * 2) (n % 2) (b % 2) (c % 2)) ∙ sym y
 
 module _ (s : Octets) (at size place : ℕ) where
+  -- what the walk keeps: the octets joined so far, joined with those of the records from slot k on, are those of all
   abbrev pub Joined : ℕ → ℕ → Type 0
   Joined hints k = bitOr hints (joinedByOr place (entries (drop k (tableAt s at size)))) ≡ joinedByOr place (entries (tableAt s at size))
 
+  -- it starts at the first slot in use, with nothing joined
   pub joined-first : (r : ℕ) → NextUsed s at size 0 r → Joined 0 r
   joined-first r u = rw (← next-entries s at size 0 r u)
 
+  -- the record's octet is joined in, and the walk goes on at the next slot in use
   pub joined-turn : (hints k r : ℕ) → place < size → InUse s at size k → NextUsed s at size (k + 1) r → Joined hints k → Joined (bitOr hints (getD s (at + (4 + size * k) + place) 0)) r
   unfolding octet
   joined-turn hints k r l u v e =
@@ -180,6 +201,7 @@ module _ (s : Octets) (at size place : ℕ) where
       let f : entries (drop k (tableAt s at size)) ≡ part s p size ∷ entries (drop r (tableAt s at size)) = in-use-entries s at size k u ∙ rw (next-entries s at size (k + 1) r v) in
       or-assoc hints (getD s (p + place) 0) (joinedByOr place (entries (drop r (tableAt s at size)))) ∙ rw (← o) (rw f at e)
 
+  -- past the last slot: all are joined
   pub joined-last : (hints k : ℕ) → 32 ≤ k → Joined hints k → hints ≡ joinedByOr place (entries (tableAt s at size))
   unfolding entries
   joined-last hints k l e =
@@ -196,6 +218,7 @@ pub record Freeing (m : Octets → Bool) (s₀ s : Octets) (at size : ℕ) : Typ
   pub now : s ≡ writeAt s₀ at (region size (tableAt s at size))
   pub left : freed m (tableAt s at size) ≡ freed m (tableAt s₀ at size)
 
+-- at the start nothing is freed
 pub freeing-first : (m : Octets → Bool) (s : Octets) (at size : ℕ) → at + (4 + size * 32) ≤ length s → Canonical s at size → Freeing m s s at size
 freeing-first m s at size h c =
     let w : writeAt s at (region size (tableAt s at size)) ≡ s = rw (sym c) (write-part s at (4 + size * 32) h) in
@@ -208,18 +231,23 @@ module _ (m : Octets → Bool) (s₀ s d : Octets) (at size k : ℕ)
     (freeing : Freeing m s₀ s at size)
     (written : d ≡ writeAt s at (region size (set (tableAt s at size) k none)))
   where
+    -- the table lies within s, which is as long as s₀
     inside : at + (4 + size * 32) ≤ length s
     inside = omega arith
 
+    -- the table with slot k free has slots of the size
     sized : Sized size (set (tableAt s at size) k none)
     sized = sized-none size (tableAt s at size) k (sized-at s at size inside)
 
+    -- and it has 32
     slots : length (set (tableAt s at size) k none) ≡ 32
     slots = length-set (tableAt s at size) k none ∙ length-table s at size
 
+    -- it is the table that lies in d
     table : tableAt d at size ≡ set (tableAt s at size) k none
     table = rw written (table-write s at size (set (tableAt s at size) k none) inside sized slots)
 
+    -- the first match is freed, and what the loop keeps holds of d
     pub freeing-turn : Freeing m s₀ d at size
     freeing-turn =
         let n = length-region size (tableAt s at size) (sized-at s at size inside) (length-table s at size) in
@@ -234,12 +262,14 @@ module _ (m : Octets → Bool) (s₀ s d : Octets) (at size k : ℕ)
           left = rw (table, found) (freed-first m (tableAt s at size)) ∙ freeing .left;
         }
 
+    -- and d has fewer entries, so the loop ends
     pub freeing-less : length (entries (tableAt d at size)) < length (entries (tableAt s at size))
     freeing-less =
         let n : length (tableAt s at size) ≡ 32 = length-table s at size in
         let e = entries-first m (tableAt s at size) (rw (n, ← found) lt) in
         rw (table, found) (omega arith)
 
+-- at the end nothing matches any more: all that matched is freed
 pub freeing-last : (m : Octets → Bool) (s₀ s : Octets) (at size k : ℕ) → k ≤ 32 → 32 ≤ k → k ≡ firstAt m (tableAt s at size) → Freeing m s₀ s at size
     → s ≡ writeAt s₀ at (region size (freed m (tableAt s₀ at size)))
 freeing-last m s₀ s at size k h l e f =

@@ -22,9 +22,12 @@ use Rattle.model.specs.Proof.Region.{Sized, free, slot-write, occupancy-ones, o
 use Rattle.model.specs.Proof.Tables.{length-chop}
 use Rattle.octets.specs.Parts.{part, writeAt, length-part, length-writeAt, write-split, write-left, write-right, write-whole}
 use Rattle.table.specs.Slots.{Canonical, tableAt, tableFrom}
+use Rattle.model.specs.Proof.Decode.{slots-back}
+use Rattle.model.specs.Proof.Room.{length-le32}
 
 -- 1. Octets written over octets -------------------------------------------------------------------------------------------------------------------
 
+-- what a write leaves: the octets before it, what is written, the octets behind it
 pub write-at : (s : Octets) (at : ℕ) (w : Octets) → at + length w ≤ length s → writeAt s at w ≡ take at s ++ (w ++ drop (at + length w) s)
 unfolding writeAt
 write-at s at w h = sets-eq w s at h ∙ append-assoc (take at s) w (drop (at + length w) s)
@@ -68,11 +71,13 @@ unfoldable slotBit : Option Octets → ℕ
 slotBit none = 0
 slotBit (some r) = 1
 
+-- it is 0 or 1
 slotBit-lt : (y : Option Octets) → slotBit y < 2
 unfolding slotBit
 slotBit-lt none = omega arith
 slotBit-lt (some r) = omega arith
 
+-- the first slot has the lowest bit of the word
 occupancy-cons : (y : Option Octets) (t : Table) → occupancy (y ∷ t) ≡ occupancy t * 2 + slotBit y
 unfolding occupancy slotBit
 occupancy-cons none t = omega arith
@@ -82,6 +87,7 @@ occupancy-cons (some r) t = refl
 word-half : (y : Option Octets) (w : ℕ) → (w * 2 + slotBit y) / 2 ≡ w
 word-half y w = omega (arith, slotBit-lt y)
 
+-- its lowest bit is that of the slot
 word-odd : (y : Option Octets) (w : ℕ) → (w * 2 + slotBit y) % 2 ≡ slotBit y
 word-odd y w = omega (arith, slotBit-lt y)
 
@@ -118,7 +124,7 @@ occupancy-none (y ∷ t) (suc k) l =
     rw (occupancy-cons y (set t k none), occupancy-cons y t)
     (sym (and-step (occupancy t * 2 + slotBit y) (2 ^ suc n - 1 - 2 ^ suc k) ∙ rw (pow-suc 2 n, pow-suc 2 k, word-half y (occupancy t), word-odd y (occupancy t), e, f, ← occupancy-none t k l′) (omega (arith, slotBit-lt y))))
 
--- no slot is in use, or all are
+-- where no slot is in use the word is zero
 pub occupancy-nones : (n : ℕ) → occupancy (replicate n none) ≡ 0
 unfolding occupancy
 occupancy-nones zero = refl
@@ -126,24 +132,24 @@ occupancy-nones (suc n) = rw (occupancy-nones n)
 
 -- 3. A table at a place -------------------------------------------------------------------------------------------------------------------------
 
+-- slots read back by a word are as many as the pieces of octets they are read from
 length-back : (w : ℕ) (rs : List Octets) → length (slotsBack w rs) ≡ length rs
 unfolding slotsBack
 length-back w [] = refl
 length-back w (r ∷ rs) = ap suc (length-back (w / 2) rs)
 
-pub length-from : (s : Octets) (size w place n : ℕ) → length (tableFrom s size w place n) ≡ n
-unfolding tableFrom
-length-from s size w place n = length-back w (chop size n (drop place s)) ∙ length-chop size n (drop place s)
-
+-- the table at a place has 32 slots
 pub length-table : (s : Octets) (at size : ℕ) → length (tableAt s at size) ≡ 32
 unfolding tableAt
 length-table s at size = length-back (u32 s at) (chop size 32 (drop (at + 4) s)) ∙ length-chop size 32 (drop (at + 4) s)
 
+-- a bit that is not set is zero
 zero-or : (x : ℕ) → x < 2 → (x ≡ 1 → ⊥) → x ≡ 0
 zero-or zero l n = refl
 zero-or (suc zero) l n = absurd (n refl)
 zero-or (suc (suc x)) l n = absurd (omega arith)
 
+-- slots read back by a word that has no bit beyond them have that word as their occupancy
 word-back : (w : ℕ) (rs : List Octets) → w < 2 ^ length rs → occupancy (slotsBack w rs) ≡ w
 unfolding slotsBack occupancy
 word-back w [] h = omega arith
@@ -174,12 +180,15 @@ from-step : (s : Octets) (size w place m : ℕ)
 unfolding tableFrom slotsBack chop part
 from-step s size w place m = rw (drop-drop size place s)
 
+-- a slot whose bit is set holds the record at its place
 pub from-used : (s : Octets) (size w place m : ℕ) → w % 2 ≡ 1 → tableFrom s size w place (suc m) ≡ some (part s place size) ∷ tableFrom s size (w / 2) (place + size) m
 from-used s size w place m e = let q : eqb (w % 2) 1 ≡ true = eq-eqb (w % 2) 1 e in rw q at (from-step s size w place m)
 
+-- a slot whose bit is not set is free
 pub from-free : (s : Octets) (size w place m : ℕ) → w % 2 ≡ 0 → tableFrom s size w place (suc m) ≡ none ∷ tableFrom s size (w / 2) (place + size) m
 from-free s size w place m e = let q : eqb (w % 2) 1 ≡ false = ne-eqb (w % 2) 1 (λ f. omega arith) in rw q at (from-step s size w place m)
 
+-- where no slots are left, the walk is over
 pub from-end : (s : Octets) (size w place : ℕ) → tableFrom s size w place 0 ≡ []
 unfolding tableFrom slotsBack chop
 from-end s size w place = refl
@@ -204,6 +213,7 @@ drop-from s size w place (suc n) (suc k) =
     let g : w / 2 ^ suc k ≡ w / 2 / 2 ^ k = rw (pow-suc, mul-comm) (sym (div-div-eq-div-mul w 2 (2 ^ k))) in
     rw (e, f, g, from-step s size w place n) (drop-from s size (w / 2) (place + size) n k)
 
+-- a table is 32 slots from the end of its word on
 pub table-from : (s : Octets) (at size : ℕ) → tableFrom s size (u32 s at) (at + 4) 32 ≡ tableAt s at size
 unfolding tableFrom tableAt
 table-from s at size = refl
@@ -218,11 +228,13 @@ sized-from s size w place (suc n) h =
     rw (from-step s size w place n)
     (either {A = Option Octets} (λ y. length (slotOctets size y) ≡ size) (eqb (w % 2) 1) (λ q. e) (λ q. length-replicate size 0), sized-from s size (w / 2) (place + size) n l)
 
+-- so have those of a table that lies within the octets
 pub sized-at : (s : Octets) (at size : ℕ) → at + (4 + size * 32) ≤ length s → Sized size (tableAt s at size)
 sized-at s at size h = rw (table-from s at size) at (sized-from s size (u32 s at) (at + 4) 32 (omega arith))
 
 -- 4. A table laid out and read back -----------------------------------------------------------------------------------------------------------------
 
+-- a word at a place is the first word of the octets from there on
 u32-drop : (s : Octets) (at : ℕ) → u32 s at ≡ u32 (drop at s) 0
 unfolding u32 u16
 u32-drop s at =
@@ -236,6 +248,7 @@ pub table-drop : (s : Octets) (at size : ℕ) → tableAt s at size ≡ tableBac
 unfolding tableAt tableBack
 table-drop s at size = rw (u32-drop s at, ← drop-drop 4 at s)
 
+-- a word that was laid out is read back
 u32-back : (n : ℕ) (x : Octets) → n < 4294967296 → u32 (le32 n ++ x) 0 ≡ n
 unfolding u32 u16 le32
 u32-back n x h =
@@ -247,18 +260,7 @@ u32-back n x h =
     let d0 : n / 256 * 256 + n % 256 ≡ n = div-add-mod' n 256 in
     rw d3 (omega arith)
 
-slots-back : (size : ℕ) (t : Table) → slotsBack (occupancy t) (map (slotOctets size) t) ≡ t
-unfolding slotsBack occupancy slotOctets
-slots-back size [] = refl
-slots-back size (none ∷ t) =
-    let a : occupancy t * 2 % 2 ≡ 0 = omega arith in
-    let b : occupancy t * 2 / 2 ≡ occupancy t = omega arith in
-    rw (a, b, slots-back size t)
-slots-back size (some r ∷ t) =
-    let a : (occupancy t * 2 + 1) % 2 ≡ 1 = omega arith in
-    let b : (occupancy t * 2 + 1) / 2 ≡ occupancy t = omega arith in
-    rw (a, b, slots-back size t)
-
+-- slots laid out in a row are cut apart again
 chop-slots : (size : ℕ) (t : Table) (x : Octets) → Sized size t → chop size (length t) (slots size t ++ x) ≡ map (slotOctets size) t
 unfolding slots chop Sized
 chop-slots size [] x z = refl
@@ -275,11 +277,13 @@ table-back size t x z l =
     let n : u32 (le32 (occupancy t) ++ (slots size t ++ x)) 0 ≡ occupancy t = u32-back (occupancy t) (slots size t ++ x) w in
     rw (n, c) (slots-back size t)
 
-length-slots : (size : ℕ) (t : Table) → Sized size t → length (slots size t) ≡ size * length t
+-- slots laid out in a row take the record size each
+pub length-slots : (size : ℕ) (t : Table) → Sized size t → length (slots size t) ≡ size * length t
 unfolding Sized slots
 length-slots size [] z = sym (mul-zero size)
 length-slots size (y ∷ t) z = length-append (slotOctets size y) (slots size t) ∙ omega (arith, z .0, length-slots size t (z .1), mul-suc size (length t))
 
+-- a table of 32 such slots fills its region
 pub length-region : (size : ℕ) (t : Table) → Sized size t → length t ≡ 32 → length (region size t) ≡ 4 + size * 32
 unfolding region le32
 length-region size t z l = let n : length (slots size t) ≡ size * 32 = length-slots size t z ∙ rw l in omega arith
@@ -293,6 +297,7 @@ table-write s at size t h z l =
     let d : drop at (writeAt s at (region size t)) ≡ region size t ++ r = rw (write-at s at (region size t) (rw n h)) (drop-at (take at s) (region size t ++ r) at m) in
     table-drop (writeAt s at (region size t)) at size ∙ rw d (table-back size t r z l)
 
+-- the octets there are that one encoding
 pub canonical-write : (s : Octets) (at size : ℕ) (t : Table) → at + (4 + size * 32) ≤ length s → Sized size t → length t ≡ 32 → Canonical (writeAt s at (region size t)) at size
 canonical-write s at size t h z l =
     let n : length (region size t) ≡ 4 + size * 32 = length-region size t z l in
@@ -305,18 +310,12 @@ table-part s at size t h z l e =
     let w : writeAt s at (region size t) ≡ s = rw (sym e) (write-part s at (4 + size * 32) h) in
     rw w at (table-write s at size t h z l)
 
-pub canonical-part : (s : Octets) (at size : ℕ) (t : Table) → at + (4 + size * 32) ≤ length s → Sized size t → length t ≡ 32 → part s at (4 + size * 32) ≡ region size t → Canonical s at size
-canonical-part s at size t h z l e = rw (table-part s at size t h z l e) e
-
 -- 5. A slot written -------------------------------------------------------------------------------------------------------------------------------------
 
-word-over : (w v : ℕ) (o : Octets) → writeAt (le32 w ++ o) 0 (le32 v) ≡ le32 v ++ o
+-- a word written over the word of a table leaves the slots
+pub word-over : (w v : ℕ) (o : Octets) → writeAt (le32 w ++ o) 0 (le32 v) ≡ le32 v ++ o
 unfolding le32 writeAt
 word-over w v o = refl
-
-length-le32 : (w : ℕ) → length (le32 w) ≡ 4
-unfolding le32
-length-le32 w = refl
 
 -- slot k lies inside
 pub slot-room : (size k : ℕ) → k < 32 → size * k + size ≤ size * 32
@@ -331,6 +330,7 @@ slots-write size t k y z l h e =
     let q = write-at (slots size t) (size * k) (slotOctets size y) (rw (e, n) r) in
     q ∙ rw e (sym (slot-write size t k y z (rw l h)))
 
+-- the same in a table with its word: the word is still the old one
 region-slot : (size : ℕ) (t : Table) (k : ℕ) (y : Option Octets) → Sized size t → length t ≡ 32 → k < 32 → length (slotOctets size y) ≡ size
     → writeAt (region size t) (4 + size * k) (slotOctets size y) ≡ le32 (occupancy t) ++ slots size (set t k y)
 unfolding region
@@ -359,6 +359,7 @@ slot-over s d at size t k y h z n l e q =
     let j′ : writeAt (writeAt s at o) at (le32 v) ≡ writeAt s at (writeAt o 0 (le32 v)) = rw add-zero at j in
     rw b (j′ ∙ rw (word-over (occupancy t) v (slots size (set t k y))))
 
+-- the same, of the table that lies there in its one encoding
 pub slot-changed : (s : Octets) (at size k : ℕ) (y : Option Octets) → at + (4 + size * 32) ≤ length s → Canonical s at size → k < 32 → length (slotOctets size y) ≡ size
     → writeAt (writeAt s (at + (4 + size * k)) (slotOctets size y)) at (le32 (occupancy (set (tableAt s at size) k y))) ≡ writeAt s at (region size (set (tableAt s at size) k y))
 slot-changed s at size k y h c l e =
@@ -385,6 +386,7 @@ release-changed s at size k h c l b =
 
 -- 6. A whole table written --------------------------------------------------------------------------------------------------------------------------------
 
+-- free slots in a row are all zeros
 slots-nones : (size n : ℕ) → slots size (replicate n none) ≡ replicate (size * n) 0
 unfolding slots slotOctets
 slots-nones size zero = rw mul-zero
@@ -397,11 +399,13 @@ pub region-nones : (size : ℕ) → region size (replicate 32 none) ≡ replicat
 unfolding region le32
 region-nones size = rw (occupancy-nones 32, slots-nones size 32) (replicate-append-replicate 4 (size * 32) 0)
 
+-- the word of a list loaded: a one for each record
 occupancy-run : (rs : List Octets) (m : ℕ) → occupancy (map some rs ++ replicate m none) ≡ 2 ^ length rs - 1
 unfolding occupancy
 occupancy-run [] m = occupancy-nones m
 occupancy-run (r ∷ rs) m = rw (occupancy-run rs m, pow-suc) (omega (arith, one-le-pow (length rs) 2 (omega arith)))
 
+-- and its slots: the records as one run, and zeros after
 slots-run : (size n : ℕ) (o : Octets) (m : ℕ) → slots size (map some (chop size n o) ++ replicate m none) ≡ take (size * n) o ++ replicate (size * m) 0
 unfolding slots slotOctets chop
 slots-run size zero o m = rw mul-zero (slots-nones size m)

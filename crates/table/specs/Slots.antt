@@ -6,7 +6,7 @@ use native.Mathlib.Nat.{mul-suc}
 use mathlib.Core.Bool.{Bool, true, false, _||_}
 use mathlib.Core.List.{List, [], _∷_, _++_, map, foldr}
 use mathlib.Core.Option.{Option, none, some}
-use lib.ListN.{length, drop, set, replicate, length-append, length-map, length-replicate, length-set, length-drop}
+use lib.ListN.{length, drop, set, replicate, length-append, length-map, length-replicate, length-drop}
 use lib.Seq.{length-take-le}
 use borrow.Author.Tests.{lt-ltb, le-ltb, ltb-true, ltb-false, eq-eqb, eqb-true, ne-eqb, eqb-false}
 use lib.Dec.{eqb, ltb}
@@ -15,10 +15,10 @@ use Rattle.model.specs.Octets.{Octets, octet, u32}
 use Rattle.model.specs.declared.Hardware.{Hardware}
 use Rattle.model.specs.State.{Table}
 use Rattle.model.specs.WellFormed.{tableOk}
-use Rattle.model.specs.Tables.{entries, any, holds, full, freed, replaced, added, stored, loaded, chop, TableRule, every, recordOk}
+use Rattle.model.specs.Tables.{entries, any, holds, full, freed, replaced, loaded, chop, TableRule, every, recordOk}
 use Rattle.model.specs.Layout.{slotOctets, region, slotsBack}
 use Rattle.model.specs.Proof.Tests.{and-true, either, equal}
-use Rattle.model.specs.Proof.Region.{Sized, free, added-set}
+use Rattle.model.specs.Proof.Region.{Sized, free}
 use Rattle.model.specs.Proof.Tables.{table-fit}
 use Rattle.octets.specs.Parts.{part}
 
@@ -57,6 +57,7 @@ joinedByOr place rs = foldr (λ x hints. bitOr (octet x place) hints) 0 rs
 
 -- 2. The first slot that matches, the lowest free slot ------------------------------------------------------------------------------------------
 
+-- one slot more in front changes no comparison of slots
 suc-ltb : (a b : ℕ) → ltb a b ≡ ltb (suc a) (suc b)
 suc-ltb a b = go (ltb a b) refl
   where
@@ -64,6 +65,7 @@ suc-ltb a b = go (ltb a b) refl
     go true e = let h = ltb-true a b e in sym (lt-ltb (suc a) (suc b) (omega arith))
     go false e = let h = ltb-false a b e in sym (le-ltb (suc a) (suc b) (omega arith))
 
+-- the same, of equality
 suc-eqb : (a b : ℕ) → eqb a b ≡ eqb (suc a) (suc b)
 suc-eqb a b = go (eqb a b) refl
   where
@@ -71,12 +73,14 @@ suc-eqb a b = go (eqb a b) refl
     go true e = sym (eq-eqb (suc a) (suc b) (ap suc (eqb-true a b e)))
     go false e = sym (ne-eqb (suc a) (suc b) (λ q. eqb-false a b e (omega arith)))
 
+-- the first slot that matches is at most the number of slots
 pub first-le : (m : Octets → Bool) (t : Table) → firstAt m t ≤ length t
 unfolding firstAt
 first-le m [] = omega arith
 first-le m (none ∷ t) = omega (arith, first-le m t)
 first-le m (some r ∷ t) = either (λ k. k ≤ suc (length t)) (m r) (λ q. omega arith) (λ q. omega (arith, first-le m t))
 
+-- the same, of the lowest free slot
 pub free-le : (t : Table) → free t ≤ length t
 unfolding free
 free-le [] = omega arith
@@ -113,15 +117,6 @@ replaced-set m x (some r ∷ t) = go (m r) (replaced-set m x t)
     go true e = refl
     go false e = ap {B = Table} (λ l. some r ∷ l) e
 
--- storing is a write to the slot found, or else to the lowest free one
-pub stored-found : (m : Octets → Bool) (x : Octets) (t : Table) → firstAt m t < length t → stored m x t ≡ set t (firstAt m t) (some x)
-unfolding stored
-stored-found m x t l = let h : holds m t ≡ true = holds-first m t ∙ lt-ltb (firstAt m t) (length t) l in rw (h, stored) (replaced-set m x t)
-
-pub stored-new : (m : Octets → Bool) (x : Octets) (t : Table) → firstAt m t ≡ length t → stored m x t ≡ set t (free t) (some x)
-unfolding stored
-stored-new m x t e = let h : holds m t ≡ false = holds-first m t ∙ le-ltb (firstAt m t) (length t) (omega arith) in rw (h, stored) (added-set x t)
-
 -- 3. Slots freed ----------------------------------------------------------------------------------------------------------------------------------
 
 -- nothing matches: nothing is freed
@@ -142,9 +137,6 @@ unfolding freed
 freed-all m h [] = refl
 freed-all m h (none ∷ t) = ap {B = Table} (λ l. none ∷ l) (freed-all m h t)
 freed-all m h (some r ∷ t) = rw (h r) (ap {B = Table} (λ l. none ∷ l) (freed-all m h t))
-
-pub freed-true : (t : Table) → freed (λ r. true) t ≡ replicate (length t) none
-freed-true t = freed-all (λ r. true) (λ r. refl) t
 
 -- the first match freed by itself: what is freed in all is the same
 pub freed-first : (m : Octets → Bool) (t : Table) → freed m (set t (firstAt m t) none) ≡ freed m t
@@ -172,48 +164,36 @@ entries-first m (some r ∷ t) l = go (m r) l (λ q. entries-first m t q)
 
 -- 4. Lengths, and records of one size -------------------------------------------------------------------------------------------------------------
 
-pub length-freed : (m : Octets → Bool) (t : Table) → length (freed m t) ≡ length t
-unfolding freed
-length-freed m [] = refl
-length-freed m (none ∷ t) = ap suc (length-freed m t)
-length-freed m (some r ∷ t) = ap suc (length-freed m t)
-
-pub length-replaced : (m : Octets → Bool) (x : Octets) (t : Table) → length (replaced m x t) ≡ length t
-length-replaced m x t = rw (replaced-set m x t) (length-set t (firstAt m t) (some x))
-
-pub length-added : (x : Octets) (t : Table) → length (added x t) ≡ length t
-length-added x t = rw (added-set x t) (length-set t (free t) (some x))
-
+-- a list of at most 32 records is loaded as 32 slots
 pub length-loaded : (rs : List Octets) → length rs ≤ 32 → length (loaded rs) ≡ 32
 unfolding loaded
 length-loaded rs h = simp (length-append, length-map, length-replicate) (omega arith)
 
+-- a slot of the size, written into a table of that size, keeps it so
 pub sized-set : (size : ℕ) (t : Table) (k : ℕ) (y : Option Octets) → Sized size t → length (slotOctets size y) ≡ size → Sized size (set t k y)
 unfolding Sized
 sized-set size [] k y z e = z
 sized-set size (s ∷ t) zero y z e = (e, z .1)
 sized-set size (s ∷ t) (suc k) y z e = (z .0, sized-set size t k y (z .1) e)
 
+-- the same, of a record put into a slot
 pub sized-some : (size : ℕ) (t : Table) (k : ℕ) (x : Octets) → Sized size t → length x ≡ size → Sized size (set t k (some x))
 unfolding slotOctets
 sized-some size t k x z e = sized-set size t k (some x) z e
 
+-- the same, of a slot freed: its octets are that many zeros
 pub sized-none : (size : ℕ) (t : Table) (k : ℕ) → Sized size t → Sized size (set t k none)
 unfolding slotOctets
 sized-none size t k z = sized-set size t k none z (length-replicate size 0)
 
-pub sized-replaced : (size : ℕ) (m : Octets → Bool) (x : Octets) (t : Table) → Sized size t → length x ≡ size → Sized size (replaced m x t)
-sized-replaced size m x t z e = rw (replaced-set m x t) (sized-some size t (firstAt m t) x z e)
-
-pub sized-added : (size : ℕ) (x : Octets) (t : Table) → Sized size t → length x ≡ size → Sized size (added x t)
-sized-added size x t z e = rw (added-set x t) (sized-some size t (free t) x z e)
-
+-- freeing the records that match keeps the size of the others
 pub sized-freed : (size : ℕ) (m : Octets → Bool) (t : Table) → Sized size t → Sized size (freed m t)
 unfolding Sized freed slotOctets
 sized-freed size m [] z = z
 sized-freed size m (none ∷ t) z = (z .0, sized-freed size m t (z .1))
 sized-freed size m (some r ∷ t) z = (either {A = Option Octets} (λ y. length (slotOctets size y) ≡ size) (m r) (λ q. length-replicate size 0) (λ q. z .0), sized-freed size m t (z .1))
 
+-- free slots are of any size
 pub sized-nones : (size n : ℕ) → Sized size (replicate n none)
 unfolding Sized slotOctets
 sized-nones size zero = tt
@@ -227,6 +207,7 @@ sized-run size (suc n) o m h =
     let e : size * suc n ≡ size * n + size = mul-suc size n in
     (length-take-le size o (omega arith), sized-run size n (drop size o) m (rw length-drop (omega arith)))
 
+-- so a list whose records all lie in its source loads slots of their size
 pub sized-loaded : (size n : ℕ) (src : Octets) (from : ℕ) → from + size * n ≤ length src → Sized size (loaded (chop size n (drop from src)))
 unfolding loaded
 sized-loaded size n src from h = sized-run size n (drop from src) (32 - length (chop size n (drop from src))) (rw length-drop (omega arith))
@@ -240,8 +221,6 @@ sized-every u (some r ∷ t) e =
     let a = and-true (recordOk u r) (every (recordOk u) (entries t)) e in
     (equal (length r) (u .size) (and-true (eqb (length r) (u .size)) _ (a .0) .0), sized-every u t (a .1))
 
+-- so in a table that is well formed for its controller
 pub sized-ok : (u : TableRule) (f : Hardware) (t : Table) → tableOk u f t ≡ true → Sized (u .size) t
 sized-ok u f t e = sized-every u t (table-fit u f t e .each)
-
-pub length-ok : (u : TableRule) (f : Hardware) (t : Table) → tableOk u f t ≡ true → length t ≡ 32
-length-ok u f t e = table-fit u f t e .slots

@@ -1,13 +1,13 @@
 -- A walk of the slots in use: where the next one is, and what is left of the table.
-use mathlib.Core.Path.{_≡_, refl, ap, sym, _∙_}
+use mathlib.Core.Path.{_≡_, refl, ap, _∙_}
 use Prim.Native.Nat.{ℕ, zero, suc, _+_, _*_, _-_, _/_, _%_, _^_, _≤_, _<_}
 use native.Mathlib.Omega.{arith}
-use native.Mathlib.Nat.{add-zero, zero-add, suc-add, mul-suc, pow-suc, mul-add}
+use native.Mathlib.Nat.{zero-add, suc-add, mul-suc, pow-suc, mul-add}
 use mathlib.Core.Bool.{Bool}
 use mathlib.Core.List.{[], _∷_, _++_, append-nil}
 use mathlib.Core.Option.{none, some}
-use lib.ListN.{getD, drop, replicate, length-replicate, drop-of-length-le}
-use lib.Seq.{getD-drop, drop-drop, drop-at}
+use lib.ListN.{drop, replicate, length-replicate, drop-of-length-le}
+use lib.Seq.{drop-drop, drop-at}
 use lib.Pow.{shr-lt}
 use lib.Count.{trailingZeros, under}
 use Rattle.model.specs.Octets.{Octets, u32}
@@ -47,6 +47,7 @@ next-from s size (suc d) (suc n) v place h p l =
     go (suc zero) e ih = let f : place + size * 0 ≡ place = omega arith in (omega arith, rw (from-used s size v place n e, f))
     go (suc (suc b)) e ih = absurd (omega arith)
 
+-- what is left of a table from slot k on: the bits of its word and its slots from there on
 drop-at-place : (s : Octets) (at size k : ℕ) → drop k (tableAt s at size) ≡ tableFrom s size (u32 s at / 2 ^ k) (at + 4 + size * k) (32 - k)
 drop-at-place s at size k = rw (table-from s at size) at (drop-from s size (u32 s at) (at + 4) 32 k)
 
@@ -90,6 +91,7 @@ unfolding entries
 entries-nones zero t = refl
 entries-nones (suc n) t = entries-nones n t
 
+-- they put the first match off by their number
 first-nones : (m : Octets → Bool) (n : ℕ) (t : Table) → firstAt m (replicate n none ++ t) ≡ n + firstAt m t
 unfolding firstAt
 first-nones m zero t = rw zero-add
@@ -100,24 +102,12 @@ pub in-use-entries : (s : Octets) (at size k : ℕ) → InUse s at size k → en
 unfolding entries
 in-use-entries s at size k u = rw u
 
-pub in-use-slot : (s : Octets) (at size k : ℕ) → InUse s at size k → getD (tableAt s at size) k none ≡ some (part s (at + (4 + size * k)) size)
-in-use-slot s at size k u =
-    let e : getD (drop k (tableAt s at size)) 0 none ≡ getD (tableAt s at size) k none = getD-drop k (tableAt s at size) 0 none ∙ rw add-zero in
-    sym e ∙ rw u
-
 -- a walk that has come to slot k goes on at r, the next slot in use: what is left
 module _ (s : Octets) (at size k r : ℕ) (u : NextUsed s at size k r) where
+  -- the records left are the same, for the slots passed are free
   pub next-entries : entries (drop k (tableAt s at size)) ≡ entries (drop r (tableAt s at size))
   next-entries = rw (u .passed) (entries-nones (r - k) (drop r (tableAt s at size)))
 
+  -- the first match from k on is the first from r on, put off by the slots passed
   pub next-first : (m : Octets → Bool) → firstAt m (drop k (tableAt s at size)) ≡ r - k + firstAt m (drop r (tableAt s at size))
   next-first m = rw (u .passed) (first-nones m (r - k) (drop r (tableAt s at size)))
-
-  pub next-here : r < 32 → entries (drop k (tableAt s at size)) ≡ part s (at + (4 + size * r)) size ∷ entries (drop (r + 1) (tableAt s at size))
-  next-here l = next-entries ∙ in-use-entries s at size r (u .used l)
-
-  pub next-end : 32 ≤ r → entries (drop k (tableAt s at size)) ≡ []
-  unfolding entries
-  next-end l =
-      let d : drop r (tableAt s at size) ≡ [] = drop-of-length-le (tableAt s at size) {i = r} (rw (length-table s at size) l) in
-      next-entries ∙ rw d

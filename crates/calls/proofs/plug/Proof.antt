@@ -1,86 +1,59 @@
--- Assumes nothing.
-use mathlib.Core.Path.{_≡_, refl, sym, ap, _∙_, subst}
-use mathlib.Core.List.{List, [], _∷_, _++_}
-use mathlib.Core.Logic.{⊎-elim}
-use Prim.Native.Nat.{ℕ, zero, suc, _+_, _-_, _*_, _≤_, _<_}
-use native.Mathlib.Omega.{arith}
-use lib.ListN.{length, take, drop, getD, set, length-set}
-use Rattle.calls.proofs.Plugs.{plug-present, plug-above, plug-unfit, plug-short, plug-done, made-given, six-long}
+-- `calls::plug` meets its contract.
+use mathlib.Core.Path.{refl, sym, _∙_}
+use Prim.Native.Nat.{_-_}
+use Rattle.calls.proofs.Plugs.{plug-present, plug-above, plug-short, made-given, six-long}
 use Rattle.calls.specs.Given.{hardwareGiven}
 use Rattle.calls.proofs.Plugs.{made-unfit, made-done}
 use borrow.Author.Needs.{needs}
 use Rattle.calls.proofs.plug.Statement.{statement}
 use Rattle.calls.proofs.plug.Tie as tie
-use Rattle.calls.proofs.plug.Reads as reads
-use Rattle.calls.proofs.plug.Lts as lts
-use Rattle.calls.proofs.index_event.Reads as index-event-reads
-use Rattle.layout.proofs.fill_block.Reads as fill-block-reads
-use Rattle.layout.proofs.present.Reads as present-reads
-use Rattle.octets.proofs.six.Reads as six-reads
-use Rattle.rules.proofs.hardware_ok.Reads as hardware-ok-reads
 
--- src/lib.rt:60:8
 present-requires : tie.Need-present-requires
 present-requires c κs = search needs
 
--- src/lib.rt:61:9
 same-length : tie.Need-same-length
 same-length c = search needs
 
--- src/lib.rt:61:9
 returns : tie.Need-returns
 returns c = plug-present _ _ _ _ _ (c .before .before .before .before .before .before .pre .0) (sym (c .before .present .ensures) ∙ c .if1 .taken) refl
 
--- src/lib.rt:64:9
 same-length-2 : tie.Need-same-length-2
 same-length-2 c = search needs
 
--- src/lib.rt:64:9
 returns-2 : tie.Need-returns-2
 returns-2 c = plug-above _ _ _ _ _ (c .before .before .before .before .before .before .before .pre .0) (sym (c .before .before .present .ensures) ∙ c .before .if1 .left) (c .if2 .taken) refl
 
--- src/lib.rt:67:9
 same-length-3 : tie.Need-same-length-3
 same-length-3 c = search needs
 
--- src/lib.rt:67:9
 returns-3 : tie.Need-returns-3
 unfolding hardwareGiven
 returns-3 c = plug-short _ _ _ _ _ (c .before .before .before .before .before .before .before .before .pre .0) (sym (c .before .before .before .present .ensures) ∙ c .before .before .if1 .left) (c .if3 .taken) refl
 
--- src/lib.rt:69:9
 six-requires : tie.Need-six-requires
 six-requires c κs = search needs
 
--- src/lib.rt:76:8
 hardware-ok-requires : tie.Need-hardware-ok-requires
 hardware-ok-requires c κs = search needs
 
--- src/lib.rt:77:9
 fill-block-requires : tie.Need-fill-block-requires
 fill-block-requires c κs = (search needs, search needs, sym (c .before .before .before .before .before .before .before .present .ensures) ∙ c .before .before .before .before .before .before .if1 .left, six-long _ _ (c .before .before .before .before .if3 .left) (c .before .before .before .six .ensures))
 
--- src/lib.rt:78:9
 index-event-requires : tie.Need-index-event-requires
 index-event-requires c κs = search needs
 
--- src/lib.rt:79:9
 same-length-4 : tie.Need-same-length-4
 same-length-4 c = search needs
 
--- src/lib.rt:79:9
 same-length-5 : tie.Need-same-length-5
 same-length-5 c = search needs
 
--- src/lib.rt:79:9
 returns-4 : tie.Need-returns-4
 returns-4 c = made-done _ _ _ _ _ _ (made-given _ _ _ _ _ (c .before .before .before .before .before .before .before .before .before .before .before .if3 .left) (c .before .before .before .before .before .before .before .before .before .before .six .ensures)) (c .before .before .before .before .before .before .before .before .before .before .before .before .before .before .before .before .before .before .before .pre .0) (sym (c .before .before .before .before .before .before .before .before .before .before .before .before .before .before .present .ensures) ∙ c .before .before .before .before .before .before .before .before .before .before .before .before .before .if1 .left) _ _ (c .before .before .before .before .before .before .before .before .before .before .before .before .before .before .before .before .before .before .before .pre .2) (c .before .before .before .before .before .before .before .before .before .before .before .before .if2 .left) (sym (c .before .before .before .before .before .before .before .before .before .hardware-ok .ensures) ∙ c .before .before .before .before .before .before .before .before .if4 .taken) (c .before .before .before .before .before .before .fill-block .ensures) (c .before .before .index-event .ensures) refl
 
--- src/lib.rt:48:1
 same-length-6 : tie.Need-same-length-6
 same-length-6 c = search needs
 
--- src/lib.rt:48:1
 returns-5 : tie.Need-returns-5
 returns-5 c = made-unfit _ _ _ _ _ _ (made-given _ _ _ _ _ (c .before .before .before .if3 .left) (c .before .before .six .ensures)) (c .before .before .before .before .before .before .before .before .before .before .before .pre .0) (sym (c .before .before .before .before .before .before .present .ensures) ∙ c .before .before .before .before .before .if1 .left) (sym (c .before .hardware-ok .ensures) ∙ c .if4 .left) refl
 

@@ -2,12 +2,12 @@
 use mathlib.Core.Path.{sym, _∙_}
 use native.Mathlib.Omega.{arith}
 use Rattle.checks.proofs.Laws.{absent-other, blank-block, present-one}
-use Rattle.checks.specs.Tests.{bytes-of}
 use Rattle.checks.specs.Present.{absent-block, present-block}
 use denote.Ref.{now}
 use borrow.Author.Needs.{needs}
 use Rattle.checks.proofs.block_ok.Statement.{statement}
 use Rattle.checks.proofs.block_ok.Tie as tie
+use Rattle.model.specs.Proof.Tables.{slice-bytes}
 
 present-requires : tie.Need-present-requires
 present-requires c κs = search needs
@@ -16,7 +16,7 @@ controller-ok-requires : tie.Need-controller-ok-requires
 controller-ok-requires c κs = search needs
 
 returns : tie.Need-returns
-returns c = c .controller-ok .ensures ∙ present-block _ _ (bytes-of (now (c .before .before .before .before .args .s)) (λ k. omega (arith, c .before .before .before .shared-slice-known .given k))) (omega arith) (present-one _ _ (sym (c .before .before .present .ensures) ∙ c .before .if1 .taken))
+returns c = c .controller-ok .ensures ∙ present-block _ _ (slice-bytes (now (c .before .before .before .before .args .s)) (λ k. omega (arith, c .before .before .before .shared-slice-known .given k))) (omega arith) (present-one _ _ (sym (c .before .before .present .ensures) ∙ c .before .if1 .taken))
 
 block-place-requires : tie.Need-block-place-requires
 block-place-requires c κs = search needs

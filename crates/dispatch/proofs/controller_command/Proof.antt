@@ -1,22 +1,10 @@
 -- Each group gives what the model says of the code.
-use mathlib.Core.Path.{_≡_, refl, sym, ap, _∙_, subst}
-use mathlib.Core.List.{List, [], _∷_, _++_}
-use Prim.Native.Nat.{ℕ, zero, suc, _+_, _-_, _*_, _≤_, _<_}
-use native.Mathlib.Omega.{arith}
-use lib.ListN.{length, take, drop, getD, set, length-set}
+use mathlib.Core.Path.{sym, _∙_}
+use Prim.Native.Nat.{_-_}
 use borrow.Author.Needs.{needs}
 use Rattle.dispatch.proofs.Bridge.{information-left}
 use Rattle.dispatch.proofs.controller_command.Statement.{statement}
 use Rattle.dispatch.proofs.controller_command.Tie as tie
-use Rattle.dispatch.proofs.controller_command.Reads as reads
-use Rattle.dispatch.proofs.controller_command.Lts as lts
-use Rattle.dispatch.proofs.devices_command.Reads as devices-command-reads
-use Rattle.dispatch.proofs.information_command.Reads as information-command-reads
-use Rattle.dispatch.proofs.is_devices.Reads as is-devices-reads
-use Rattle.dispatch.proofs.is_keys.Reads as is-keys-reads
-use Rattle.dispatch.proofs.is_settings.Reads as is-settings-reads
-use Rattle.dispatch.proofs.keys_command.Reads as keys-command-reads
-use Rattle.dispatch.proofs.settings_command.Reads as settings-command-reads
 
 is-settings-requires : tie.Need-is-settings-requires
 is-settings-requires c κs = search needs

@@ -1,22 +1,10 @@
 -- Each code's function gives what the model says of that code.
-use mathlib.Core.Path.{_≡_, refl, sym, ap, _∙_, subst}
-use mathlib.Core.List.{List, [], _∷_, _++_}
-use Prim.Native.Nat.{ℕ, zero, suc, _+_, _-_, _*_, _≤_, _<_}
-use native.Mathlib.Omega.{arith}
-use lib.ListN.{length, take, drop, getD, set, length-set}
+use Prim.Native.Nat.{_-_}
 use borrow.Author.Needs.{needs}
 use Rattle.model.specs.Immediate.{addUuid, removeUuid, blockDevice, unblockDevice, addDevice, removeDevice}
 use Rattle.dispatch.proofs.Bridge.{arm-immediate, devices-last, rule-10, rule-11, rule-26, rule-27, rule-33, rule-34}
 use Rattle.dispatch.proofs.devices_command.Statement.{statement}
 use Rattle.dispatch.proofs.devices_command.Tie as tie
-use Rattle.dispatch.proofs.devices_command.Reads as reads
-use Rattle.dispatch.proofs.devices_command.Lts as lts
-use Rattle.devices.proofs.add_device.Reads as add-device-reads
-use Rattle.devices.proofs.add_uuid.Reads as add-uuid-reads
-use Rattle.devices.proofs.block_device.Reads as block-device-reads
-use Rattle.devices.proofs.remove_device.Reads as remove-device-reads
-use Rattle.devices.proofs.remove_uuid.Reads as remove-uuid-reads
-use Rattle.devices.proofs.unblock_device.Reads as unblock-device-reads
 
 add-uuid-requires : tie.Need-add-uuid-requires
 add-uuid-requires c κs = search needs

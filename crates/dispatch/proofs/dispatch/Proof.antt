@@ -1,24 +1,12 @@
 -- By the code: a general command, a command to a controller, present or absent, or none.
-use mathlib.Core.Path.{_≡_, refl, sym, ap, _∙_, subst}
-use mathlib.Core.List.{List, [], _∷_, _++_}
-use Prim.Native.Nat.{ℕ, zero, suc, _+_, _-_, _*_, _≤_, _<_}
-use native.Mathlib.Omega.{arith}
-use lib.ListN.{length, take, drop, getD, set, length-set}
+use mathlib.Core.Path.{sym, _∙_}
+use Prim.Native.Nat.{_-_}
 use borrow.Author.Needs.{needs}
 use Rattle.model.specs.Commands.{readVersion, readCommands, readIndexes}
 use Rattle.layout.specs.Places.{ready}
 use Rattle.dispatch.proofs.Bridge.{arm-general, arm-absent, arm-unknown, rule-01, rule-02, rule-03}
 use Rattle.dispatch.proofs.dispatch.Statement.{statement}
 use Rattle.dispatch.proofs.dispatch.Tie as tie
-use Rattle.dispatch.proofs.dispatch.Reads as reads
-use Rattle.dispatch.proofs.dispatch.Lts as lts
-use Rattle.dispatch.proofs.controller_command.Reads as controller-command-reads
-use Rattle.dispatch.proofs.to_controller.Reads as to-controller-reads
-use Rattle.replies.proofs.refuse.Reads as refuse-reads
-use Rattle.layout.proofs.present.Reads as present-reads
-use Rattle.information.proofs.read_commands.Reads as read-commands-reads
-use Rattle.information.proofs.read_indexes.Reads as read-indexes-reads
-use Rattle.information.proofs.read_version.Reads as read-version-reads
 
 read-version-requires : tie.Need-read-version-requires
 read-version-requires c κs = search needs

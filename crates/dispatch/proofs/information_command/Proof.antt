@@ -1,49 +1,32 @@
--- Assumes nothing.
-use mathlib.Core.Path.{_≡_, refl, sym, ap, _∙_, subst}
-use mathlib.Core.List.{List, [], _∷_, _++_}
-use mathlib.Core.Logic.{⊎-elim}
-use Prim.Native.Nat.{ℕ, zero, suc, _+_, _-_, _*_, _≤_, _<_}
-use native.Mathlib.Omega.{arith}
-use lib.ListN.{length, take, drop, getD, set, length-set}
+-- `dispatch::information_command` meets its contract.
+use Prim.Native.Nat.{_-_}
 use borrow.Author.Needs.{needs}
 use Rattle.model.specs.Immediate.{readInformation, setLocalName}
 use Rattle.dispatch.proofs.Bridge.{arm-immediate, information-last, rule-04, rule-0F}
 use Rattle.dispatch.proofs.information_command.Statement.{statement}
 use Rattle.dispatch.proofs.information_command.Tie as tie
-use Rattle.dispatch.proofs.information_command.Reads as reads
-use Rattle.dispatch.proofs.information_command.Lts as lts
-use Rattle.information.proofs.read_information.Reads as read-information-reads
-use Rattle.information.proofs.set_local_name.Reads as set-local-name-reads
 
--- src/lib.rt:128:9
 read-information-requires : tie.Need-read-information-requires
 read-information-requires c κs = search needs
 
--- src/lib.rt:128:9
 same-length : tie.Need-same-length
 same-length c = search needs
 
--- src/lib.rt:128:9
 same-length-2 : tie.Need-same-length-2
 same-length-2 c = search needs
 
--- src/lib.rt:128:9
 returns : tie.Need-returns
 returns c = arm-immediate _ _ _ 4 _ _ _ _ _ (c .before .before .before .before .before .if1 .taken) readInformation rule-04 (search needs) (c .before .before .read-information .ensures)
 
--- src/lib.rt:130:5
 set-local-name-requires : tie.Need-set-local-name-requires
 set-local-name-requires c κs = search needs
 
--- src/lib.rt:123:1
 same-length-3 : tie.Need-same-length-3
 same-length-3 c = search needs
 
--- src/lib.rt:123:1
 same-length-4 : tie.Need-same-length-4
 same-length-4 c = search needs
 
--- src/lib.rt:123:1
 returns-2 : tie.Need-returns-2
 returns-2 c = arm-immediate _ _ _ 15 _ _ _ _ _ (information-last _ (c .before .before .before .before .before .before .before .before .before .before .before .pre .2) (c .before .before .before .before .before .before .before .if1 .left)) setLocalName rule-0F (search needs) (c .before .before .before .before .set-local-name .ensures)
 

@@ -1,20 +1,10 @@
 -- Each code's function gives what the model says of that code.
-use mathlib.Core.Path.{_≡_, refl, sym, ap, _∙_, subst}
-use mathlib.Core.List.{List, [], _∷_, _++_}
-use Prim.Native.Nat.{ℕ, zero, suc, _+_, _-_, _*_, _≤_, _<_}
-use native.Mathlib.Omega.{arith}
-use lib.ListN.{length, take, drop, getD, set, length-set}
+use Prim.Native.Nat.{_-_}
 use borrow.Author.Needs.{needs}
 use Rattle.model.specs.Immediate.{loadKeys, linkKeyList, longTermKeyList, identityKeyList, unpairDevice}
 use Rattle.dispatch.proofs.Bridge.{arm-immediate, keys-last, rule-12, rule-13, rule-30, rule-1B}
 use Rattle.dispatch.proofs.keys_command.Statement.{statement}
 use Rattle.dispatch.proofs.keys_command.Tie as tie
-use Rattle.dispatch.proofs.keys_command.Reads as reads
-use Rattle.dispatch.proofs.keys_command.Lts as lts
-use Rattle.keys.proofs.load_identity_keys.Reads as load-identity-keys-reads
-use Rattle.keys.proofs.load_link_keys.Reads as load-link-keys-reads
-use Rattle.keys.proofs.load_long_term_keys.Reads as load-long-term-keys-reads
-use Rattle.keys.proofs.unpair_device.Reads as unpair-device-reads
 
 load-link-keys-requires : tie.Need-load-link-keys-requires
 load-link-keys-requires c κs = search needs

@@ -1,118 +1,81 @@
--- Assumes nothing.
-use mathlib.Core.Path.{_≡_, refl, sym, ap, _∙_, subst}
-use mathlib.Core.List.{List, [], _∷_, _++_}
-use mathlib.Core.Logic.{⊎-elim}
-use Prim.Native.Nat.{ℕ, zero, suc, _+_, _-_, _*_, _≤_, _<_}
-use native.Mathlib.Omega.{arith}
-use lib.ListN.{length, take, drop, getD, set, length-set}
+-- `dispatch::settings_command` meets its contract.
+use Prim.Native.Nat.{_-_}
 use borrow.Author.Needs.{needs}
 use Rattle.model.specs.Rules.{setPowered, setDiscoverable, setConnectable, setLowEnergy, setStaticAddress}
 use Rattle.model.specs.Immediate.{setBondable}
 use Rattle.dispatch.proofs.Bridge.{arm-immediate, arm-radio, settings-last, rule-05, rule-06, rule-07, rule-09, rule-0D, rule-2B}
 use Rattle.dispatch.proofs.settings_command.Statement.{statement}
 use Rattle.dispatch.proofs.settings_command.Tie as tie
-use Rattle.dispatch.proofs.settings_command.Reads as reads
-use Rattle.dispatch.proofs.settings_command.Lts as lts
-use Rattle.settings.proofs.set_bondable.Reads as set-bondable-reads
-use Rattle.settings.proofs.set_connectable.Reads as set-connectable-reads
-use Rattle.settings.proofs.set_discoverable.Reads as set-discoverable-reads
-use Rattle.settings.proofs.set_low_energy.Reads as set-low-energy-reads
-use Rattle.settings.proofs.set_powered.Reads as set-powered-reads
-use Rattle.settings.proofs.set_static_address.Reads as set-static-address-reads
 
--- src/lib.rt:105:9
 set-powered-requires : tie.Need-set-powered-requires
 set-powered-requires c κs = search needs
 
--- src/lib.rt:105:9
 same-length : tie.Need-same-length
 same-length c = search needs
 
--- src/lib.rt:105:9
 same-length-2 : tie.Need-same-length-2
 same-length-2 c = search needs
 
--- src/lib.rt:105:9
 returns : tie.Need-returns
 returns c = arm-radio _ _ _ 5 _ _ _ _ _ (c .before .before .before .before .before .before .before .if1 .taken) setPowered rule-05 (search needs) (c .before .before .before .before .set-powered .ensures)
 
--- src/lib.rt:108:9
 set-discoverable-requires : tie.Need-set-discoverable-requires
 set-discoverable-requires c κs = search needs
 
--- src/lib.rt:108:9
 same-length-3 : tie.Need-same-length-3
 same-length-3 c = search needs
 
--- src/lib.rt:108:9
 same-length-4 : tie.Need-same-length-4
 same-length-4 c = search needs
 
--- src/lib.rt:108:9
 returns-2 : tie.Need-returns-2
 returns-2 c = arm-radio _ _ _ 6 _ _ _ _ _ (c .before .before .before .before .before .before .before .if2 .taken) setDiscoverable rule-06 (search needs) (c .before .before .before .before .set-discoverable .ensures)
 
--- src/lib.rt:111:9
 set-connectable-requires : tie.Need-set-connectable-requires
 set-connectable-requires c κs = search needs
 
--- src/lib.rt:111:9
 same-length-5 : tie.Need-same-length-5
 same-length-5 c = search needs
 
--- src/lib.rt:111:9
 same-length-6 : tie.Need-same-length-6
 same-length-6 c = search needs
 
--- src/lib.rt:111:9
 returns-3 : tie.Need-returns-3
 returns-3 c = arm-radio _ _ _ 7 _ _ _ _ _ (c .before .before .before .before .before .before .before .if3 .taken) setConnectable rule-07 (search needs) (c .before .before .before .before .set-connectable .ensures)
 
--- src/lib.rt:114:9
 set-bondable-requires : tie.Need-set-bondable-requires
 set-bondable-requires c κs = search needs
 
--- src/lib.rt:114:9
 same-length-7 : tie.Need-same-length-7
 same-length-7 c = search needs
 
--- src/lib.rt:114:9
 same-length-8 : tie.Need-same-length-8
 same-length-8 c = search needs
 
--- src/lib.rt:114:9
 returns-4 : tie.Need-returns-4
 returns-4 c = arm-immediate _ _ _ 9 _ _ _ _ _ (c .before .before .before .before .before .before .before .if4 .taken) setBondable rule-09 (search needs) (c .before .before .before .before .set-bondable .ensures)
 
--- src/lib.rt:117:9
 set-low-energy-requires : tie.Need-set-low-energy-requires
 set-low-energy-requires c κs = search needs
 
--- src/lib.rt:117:9
 same-length-9 : tie.Need-same-length-9
 same-length-9 c = search needs
 
--- src/lib.rt:117:9
 same-length-10 : tie.Need-same-length-10
 same-length-10 c = search needs
 
--- src/lib.rt:117:9
 returns-5 : tie.Need-returns-5
 returns-5 c = arm-radio _ _ _ 13 _ _ _ _ _ (c .before .before .before .before .before .before .before .if5 .taken) setLowEnergy rule-0D (search needs) (c .before .before .before .before .set-low-energy .ensures)
 
--- src/lib.rt:119:5
 set-static-address-requires : tie.Need-set-static-address-requires
 set-static-address-requires c κs = search needs
 
--- src/lib.rt:100:1
 same-length-11 : tie.Need-same-length-11
 same-length-11 c = search needs
 
--- src/lib.rt:100:1
 same-length-12 : tie.Need-same-length-12
 same-length-12 c = search needs
 
--- src/lib.rt:100:1
 returns-6 : tie.Need-returns-6
 returns-6 c = arm-radio _ _ _ 43 _ _ _ _ _ (settings-last _ (c .before .before .before .before .before .before .before .before .before .before .before .before .before .before .before .pre .2) (c .before .before .before .before .before .before .before .before .before .before .before .if1 .left) (c .before .before .before .before .before .before .before .before .before .before .if2 .left) (c .before .before .before .before .before .before .before .before .before .if3 .left) (c .before .before .before .before .before .before .before .before .if4 .left) (c .before .before .before .before .before .before .before .if5 .left)) setStaticAddress rule-2B (search needs) (c .before .before .before .before .set-static-address .ensures)
 

@@ -1,9 +1,7 @@
 -- A command: the state, the room, the frame, then the function that serves the code.
-use mathlib.Core.Path.{_≡_, refl, sym, ap, _∙_, subst}
-use mathlib.Core.List.{List, [], _∷_, _++_}
-use Prim.Native.Nat.{ℕ, zero, suc, _+_, _-_, _*_, _≤_, _<_}
+use mathlib.Core.Path.{refl, sym, _∙_}
+use Prim.Native.Nat.{_-_}
 use native.Mathlib.Omega.{arith}
-use lib.ListN.{length, take, drop, getD, set, length-set}
 use borrow.Author.Needs.{needs}
 use Rattle.model.specs.Proof.Demand3.{state-long}
 use Rattle.hub.specs.Entries.{gives-bad}
@@ -11,12 +9,6 @@ use Rattle.hub.proofs.Laws.{packet-long, params-all}
 use Rattle.hub.proofs.Bridge.{command-done, command-no-packet, command-no-room}
 use Rattle.hub.proofs.command.Statement.{statement}
 use Rattle.hub.proofs.command.Tie as tie
-use Rattle.hub.proofs.command.Reads as reads
-use Rattle.hub.proofs.command.Lts as lts
-use Rattle.hub.proofs.framed.Reads as framed-reads
-use Rattle.checks.proofs.well_formed.Reads as well-formed-reads
-use Rattle.dispatch.proofs.dispatch.Reads as dispatch-reads
-use Rattle.octets.proofs.u16_at.Reads as u16-at-reads
 
 well-formed-requires : tie.Need-well-formed-requires
 well-formed-requires c κs = search needs

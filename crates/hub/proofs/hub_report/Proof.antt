@@ -1,39 +1,26 @@
--- Assumes nothing.
-use mathlib.Core.Path.{_≡_, refl, sym, ap, _∙_, subst}
-use mathlib.Core.List.{List, [], _∷_, _++_}
-use mathlib.Core.Logic.{⊎-elim}
-use Prim.Native.Nat.{ℕ, zero, suc, _+_, _-_, _*_, _≤_, _<_}
-use native.Mathlib.Omega.{arith}
-use lib.ListN.{length, take, drop, getD, set, length-set}
+-- `hub::hub_report` meets its contract.
+use mathlib.Core.Path.{refl}
+use Prim.Native.Nat.{_-_}
 use borrow.Author.Needs.{needs}
 use Rattle.model.specs.Meanings.{hubReport}
 use Rattle.model.specs.Proof.Room.{notSave}
 use Rattle.hub.specs.Entries.{count-call, returns-packed}
 use Rattle.hub.proofs.hub_report.Statement.{statement}
 use Rattle.hub.proofs.hub_report.Tie as tie
-use Rattle.hub.proofs.hub_report.Reads as reads
-use Rattle.hub.proofs.hub_report.Lts as lts
-use Rattle.hub.proofs.pack.Reads as pack-reads
-use Rattle.hub.proofs.report.Reads as report-reads
 
--- src/lib.rt:100:9
 report-requires : tie.Need-report-requires
 report-requires c κs = search needs
 
--- src/lib.rt:101:5
 pack-requires : tie.Need-pack-requires
 unfolding notSave
 pack-requires c κs = count-call _ _ _ _ _ _ refl (c .before .before .before .before .report .ensures)
 
--- src/lib.rt:96:1
 same-length : tie.Need-same-length
 same-length c = search needs
 
--- src/lib.rt:96:1
 same-length-2 : tie.Need-same-length-2
 same-length-2 c = search needs
 
--- src/lib.rt:96:1
 returns : tie.Need-returns
 unfolding hubReport
 returns c = returns-packed _ _ _ _ _ _ (c .before .before .before .before .before .report .ensures) (c .pack .ensures)

@@ -1,10 +1,6 @@
--- Assumes nothing.
-use mathlib.Core.Path.{_≡_, refl, sym, ap, _∙_, subst}
-use mathlib.Core.List.{List, [], _∷_, _++_}
-use mathlib.Core.Logic.{⊎-elim}
-use Prim.Native.Nat.{ℕ, zero, suc, _+_, _-_, _*_, _≤_, _<_}
-use native.Mathlib.Omega.{arith}
-use lib.ListN.{length, take, drop, getD, set, length-set}
+-- `hub::plug` meets its contract.
+use mathlib.Core.Path.{refl, sym, _∙_}
+use Prim.Native.Nat.{_-_}
 use borrow.Author.Needs.{needs}
 use Rattle.calls.specs.Given.{hardwareGiven}
 use Rattle.model.specs.Proof.Demand3.{state-long}
@@ -12,45 +8,32 @@ use Rattle.hub.specs.Entries.{gives-bad}
 use Rattle.hub.proofs.Bridge.{plug-done, plug-no-room}
 use Rattle.hub.proofs.plug.Statement.{statement}
 use Rattle.hub.proofs.plug.Tie as tie
-use Rattle.hub.proofs.plug.Reads as reads
-use Rattle.hub.proofs.plug.Lts as lts
-use Rattle.calls.proofs.plug.Reads as plug-reads
-use Rattle.checks.proofs.well_formed.Reads as well-formed-reads
 
--- src/lib.rt:60:8
 well-formed-requires : tie.Need-well-formed-requires
 well-formed-requires c κs = search needs
 
--- src/lib.rt:62:13
 plug-requires : tie.Need-plug-requires
 plug-requires c κs = ((sym (c .before .before .before .before .well-formed .ensures) ∙ c .before .before .before .if1 .taken), state-long _ (sym (c .before .before .before .before .well-formed .ensures) ∙ c .before .before .before .if1 .taken), search needs)
 
--- src/lib.rt:62:13
 same-length : tie.Need-same-length
 same-length c = search needs
 
--- src/lib.rt:62:13
 same-length-2 : tie.Need-same-length-2
 same-length-2 c = search needs
 
--- src/lib.rt:62:13
 returns : tie.Need-returns
 unfolding hardwareGiven
 returns c = plug-done _ _ _ _ _ _ _ _ (sym (c .before .before .before .before .before .before .before .before .before .well-formed .ensures) ∙ c .before .before .before .before .before .before .before .before .if1 .taken) (c .before .before .before .before .before .before .before .if2 .taken) (c .before .before .before .before .plug .ensures)
 
--- src/lib.rt:64:9
 same-length-3 : tie.Need-same-length-3
 same-length-3 c = search needs
 
--- src/lib.rt:64:9
 returns-2 : tie.Need-returns-2
 returns-2 c = plug-no-room _ _ _ _ _ (sym (c .before .before .well-formed .ensures) ∙ c .before .if1 .taken) (c .if2 .left)
 
--- src/lib.rt:57:1
 same-length-4 : tie.Need-same-length-4
 same-length-4 c = search needs
 
--- src/lib.rt:57:1
 returns-3 : tie.Need-returns-3
 returns-3 c = gives-bad _ _ _ _ (sym (c .before .well-formed .ensures) ∙ c .if1 .left) refl
 

@@ -1,54 +1,37 @@
--- Assumes nothing.
-use mathlib.Core.Path.{_≡_, refl, sym, ap, _∙_, subst}
-use mathlib.Core.List.{List, [], _∷_, _++_}
-use mathlib.Core.Logic.{⊎-elim}
-use Prim.Native.Nat.{ℕ, zero, suc, _+_, _-_, _*_, _≤_, _<_}
-use native.Mathlib.Omega.{arith}
-use lib.ListN.{length, take, drop, getD, set, length-set}
+-- `hub::report` meets its contract.
+use mathlib.Core.Path.{refl, sym, _∙_}
+use Prim.Native.Nat.{_-_}
 use borrow.Author.Needs.{needs}
 use Rattle.model.specs.Proof.Demand3.{state-long}
 use Rattle.hub.specs.Entries.{gives-bad}
 use Rattle.hub.proofs.Bridge.{report-done, report-no-room}
 use Rattle.hub.proofs.report.Statement.{statement}
 use Rattle.hub.proofs.report.Tie as tie
-use Rattle.hub.proofs.report.Reads as reads
-use Rattle.hub.proofs.report.Lts as lts
-use Rattle.checks.proofs.well_formed.Reads as well-formed-reads
-use Rattle.settings.proofs.report.Reads as report-reads
 
--- src/lib.rt:34:8
 well-formed-requires : tie.Need-well-formed-requires
 well-formed-requires c κs = search needs
 
--- src/lib.rt:36:13
 report-requires : tie.Need-report-requires
 report-requires c κs = ((sym (c .before .before .before .before .well-formed .ensures) ∙ c .before .before .before .if1 .taken), state-long _ (sym (c .before .before .before .before .well-formed .ensures) ∙ c .before .before .before .if1 .taken), search needs)
 
--- src/lib.rt:36:13
 same-length : tie.Need-same-length
 same-length c = search needs
 
--- src/lib.rt:36:13
 same-length-2 : tie.Need-same-length-2
 same-length-2 c = search needs
 
--- src/lib.rt:36:13
 returns : tie.Need-returns
 returns c = report-done _ _ _ _ _ _ _ _ (sym (c .before .before .before .before .before .before .before .before .before .well-formed .ensures) ∙ c .before .before .before .before .before .before .before .before .if1 .taken) (c .before .before .before .before .before .before .before .if2 .taken) (c .before .before .before .before .report .ensures)
 
--- src/lib.rt:38:9
 same-length-3 : tie.Need-same-length-3
 same-length-3 c = search needs
 
--- src/lib.rt:38:9
 returns-2 : tie.Need-returns-2
 returns-2 c = report-no-room _ _ _ _ _ (sym (c .before .before .well-formed .ensures) ∙ c .before .if1 .taken) (c .if2 .left)
 
--- src/lib.rt:31:1
 same-length-4 : tie.Need-same-length-4
 same-length-4 c = search needs
 
--- src/lib.rt:31:1
 returns-3 : tie.Need-returns-3
 returns-3 c = gives-bad _ _ _ _ (sym (c .before .well-formed .ensures) ∙ c .if1 .left) refl
 

@@ -1,21 +1,11 @@
 -- `image::save_tables` meets its contract. The invariant: the images of the tables from k on are still to be written.
-use mathlib.Core.Path.{_≡_, refl, sym, ap, _∙_, subst}
-use mathlib.Core.List.{List, [], _∷_, _++_}
-use mathlib.Core.Logic.{⊎-elim}
-use Prim.Native.Nat.{ℕ, zero, suc, _+_, _-_, _*_, _≤_, _<_}
+use Prim.Native.Nat.{_-_, _≤_}
 use native.Mathlib.Omega.{arith}
-use lib.ListN.{length, take, drop, getD, set, length-set}
-use Rattle.layout.specs.Places.{Ready}
 use Rattle.layout.specs.Tables.{table-fits}
 use Rattle.image.proofs.SaveLaws.{SavingTables, tables-first, tables-room, tables-turn, tables-last}
 use borrow.Author.Needs.{needs}
 use Rattle.image.proofs.save_tables.Statement.{statement}
 use Rattle.image.proofs.save_tables.Tie as tie
-use Rattle.image.proofs.save_tables.Reads as reads
-use Rattle.image.proofs.save_tables.Lts as lts
-use Rattle.image.proofs.save_records.Reads as save-records-reads
-use Rattle.layout.proofs.table_place.Reads as table-place-reads
-use Rattle.records.proofs.size_of.Reads as size-of-reads
 
 abbrev Inv-loop : tie.InvT-loop
 Inv-loop state index out₀ place p₀ k₀ out p k = (k ≤ 6) × SavingTables state index out₀ p₀ out p k
@@ -23,39 +13,30 @@ Inv-loop state index out₀ place p₀ k₀ out p k = (k ≤ 6) × SavingTables 
 abbrev μ-loop : tie.MeasureT-loop
 μ-loop state index out₀ place p₀ k₀ out p k = 6 - k
 
--- src/lib.rt:38:5
 loop-holds : tie.Need-loop-holds Inv-loop μ-loop
 loop-holds c = (search needs, tables-first _ _ (search needs) _ _)
 
--- src/lib.rt:39:33
 table-place-requires : tie.Need-table-place-requires Inv-loop μ-loop
 table-place-requires c κs = search needs
 
--- src/lib.rt:39:64
 size-of-requires : tie.Need-size-of-requires Inv-loop μ-loop
 size-of-requires c κs = search needs
 
--- src/lib.rt:39:9
 save-records-requires : tie.Need-save-records-requires Inv-loop μ-loop
 save-records-requires c κs = let r = c .before .before .before .before .before .before .before .pre .0 in let f = table-fits _ _ (r .below) (c .before .before .before .loop-test .taken) in let a = c .before .before .table-place .ensures in let b = c .before .size-of .ensures in let g = tables-room _ _ r _ _ _ _ _ (c .before .before .before .loop-test .taken) (c .before .before .before .before .loop .inv .1) in let k = c .before .before .before .before .loop .inv .1 .long in let n = r .long in (omega arith, omega arith)
 
--- src/lib.rt:40:9
 add-k : tie.Need-add-k Inv-loop μ-loop
 add-k c = search needs
 
--- src/lib.rt:38:5
 loop-less : tie.Need-loop-less Inv-loop μ-loop
 loop-less c = omega arith
 
--- src/lib.rt:38:5
 loop-again : tie.Need-loop-again Inv-loop μ-loop
 loop-again c = (search needs, tables-turn _ _ (search needs) _ _ _ _ _ _ _ _ _ (c .before .before .before .before .before .before .loop-test .taken) (c .before .before .before .before .before .table-place .ensures) (c .before .before .before .before .size-of .ensures) (c .before .before .save-records .ensures .0) (c .before .before .save-records .ensures .1) (c .before .before .save-records .ensures .2) (c .before .before .before .before .before .before .before .loop .inv .1))
 
--- src/lib.rt:32:1
 same-length : tie.Need-same-length Inv-loop μ-loop
 same-length c = c .before .loop .inv .1 .long
 
--- src/lib.rt:32:1
 returns : tie.Need-returns Inv-loop μ-loop
 returns c = tables-last _ _ (search needs) _ _ _ _ _ (c .before .loop .inv .0) (c .loop-test .left) (c .before .loop .inv .1)
 

@@ -1,56 +1,38 @@
--- Assumes nothing.
-use mathlib.Core.Path.{_≡_, refl, sym, ap, _∙_, subst}
-use mathlib.Core.List.{List, [], _∷_, _++_}
-use mathlib.Core.Logic.{⊎-elim}
-use Prim.Native.Nat.{ℕ, zero, suc, _+_, _-_, _*_, _≤_, _<_}
-use native.Mathlib.Omega.{arith}
-use lib.ListN.{length, take, drop, getD, set, length-set}
+-- `information::general_reply` meets its contract.
+use mathlib.Core.Path.{refl}
+use Prim.Native.Nat.{_-_}
 use Rattle.information.proofs.General.{reply-done, reply-length, reply-index}
 use borrow.Author.Needs.{needs}
 use Rattle.information.proofs.general_reply.Statement.{statement}
 use Rattle.information.proofs.general_reply.Tie as tie
-use Rattle.information.proofs.general_reply.Reads as reads
-use Rattle.information.proofs.general_reply.Lts as lts
-use Rattle.replies.proofs.command_complete.Reads as command-complete-reads
-use Rattle.replies.proofs.refuse.Reads as refuse-reads
 
--- src/lib.rt:22:13
 command-complete-requires : tie.Need-command-complete-requires
 command-complete-requires c κs = search needs
 
--- src/lib.rt:23:33
 add-t13 : tie.Need-add-t13
 add-t13 c = search needs
 
--- src/lib.rt:23:13
 same-length : tie.Need-same-length
 same-length c = search needs
 
--- src/lib.rt:23:13
 returns : tie.Need-returns
 returns c = reply-done _ _ _ _ _ _ _ (search needs) (c .before .before .before .before .before .if1 .taken) (c .before .before .before .before .if2 .taken) (search needs) refl (c .before .before .command-complete .ensures)
 
--- src/lib.rt:25:9
 refuse-requires : tie.Need-refuse-requires
 refuse-requires c κs = search needs
 
--- src/lib.rt:26:9
 same-length-2 : tie.Need-same-length-2
 same-length-2 c = search needs
 
--- src/lib.rt:26:9
 returns-2 : tie.Need-returns-2
 returns-2 c = reply-length _ _ _ _ _ _ _ (search needs) (c .before .before .before .before .before .if1 .taken) (c .before .before .before .before .if2 .left) (c .before .before .refuse .ensures .0) (c .before .before .refuse .ensures .1)
 
--- src/lib.rt:28:5
 refuse-requires-2 : tie.Need-refuse-requires-2
 refuse-requires-2 c κs = search needs
 
--- src/lib.rt:16:1
 same-length-3 : tie.Need-same-length-3
 same-length-3 c = search needs
 
--- src/lib.rt:16:1
 returns-3 : tie.Need-returns-3
 returns-3 c = reply-index _ _ _ _ _ _ _ (search needs) (c .before .before .before .before .if1 .left) (c .before .before .refuse2 .ensures .0) (c .before .before .refuse2 .ensures .1)
 

@@ -1,80 +1,53 @@
--- Assumes nothing.
-use mathlib.Core.Path.{_≡_, refl, sym, ap, _∙_, subst}
-use mathlib.Core.List.{List, [], _∷_, _++_}
-use mathlib.Core.Logic.{⊎-elim}
-use Prim.Native.Nat.{ℕ, zero, suc, _+_, _-_, _*_, _≤_, _<_}
+-- `information::put_information` meets its contract.
+use mathlib.Core.Path.{_≡_, refl}
+use Prim.Native.Nat.{_-_}
 use native.Mathlib.Omega.{arith}
-use lib.ListN.{length, take, drop, getD, set, length-set}
+use lib.ListN.{length}
 use Rattle.information.proofs.Controller.{information-put, uuids-fit}
 use Rattle.information.proofs.Name.{name-fits}
 use borrow.Author.Needs.{needs}
 use Rattle.information.proofs.put_information.Statement.{statement}
 use Rattle.information.proofs.put_information.Tie as tie
-use Rattle.information.proofs.put_information.Reads as reads
-use Rattle.information.proofs.put_information.Lts as lts
-use Rattle.information.proofs.information_head.Reads as information-head-reads
-use Rattle.layout.proofs.hardware_at.Reads as hardware-at-reads
-use Rattle.layout.proofs.name_place.Reads as name-place-reads
-use Rattle.layout.proofs.settings_at.Reads as settings-at-reads
-use Rattle.layout.proofs.table_place.Reads as table-place-reads
-use Rattle.octets.proofs.copy_into.Reads as copy-into-reads
-use Rattle.octets.proofs.copy_part.Reads as copy-part-reads
-use Rattle.rules.proofs.current_settings.Reads as current-settings-reads
-use Rattle.table.proofs.or_octets.Reads as or-octets-reads
 
--- src/lib.rt:160:9
 settings-at-requires : tie.Need-settings-at-requires
 settings-at-requires c κs = search needs
 
--- src/lib.rt:161:9
 hardware-at-requires : tie.Need-hardware-at-requires
 hardware-at-requires c κs = search needs
 
--- src/lib.rt:162:9
 current-settings-requires : tie.Need-current-settings-requires
 current-settings-requires c κs = search needs
 
--- src/lib.rt:163:9
 table-place-requires : tie.Need-table-place-requires
 table-place-requires c κs = search needs
 
--- src/lib.rt:164:9
 or-octets-requires : tie.Need-or-octets-requires
 or-octets-requires c κs = let f = uuids-fit _ _ (c .before .before .before .before .before .before .pre .0 .below) (c .table-place .ensures) in let l = c .before .before .before .before .before .before .pre .0 .long in (omega arith, search needs)
 
--- src/lib.rt:165:16
 information-head-requires : tie.Need-information-head-requires
 information-head-requires c κs = search needs
 
--- src/lib.rt:167:9
 name-place-requires : tie.Need-name-place-requires
 name-place-requires c κs = search needs
 
--- src/lib.rt:168:31
 slice-aggregate-copy-into : tie.Need-slice-aggregate-copy-into
 slice-aggregate-copy-into c = search needs
 
--- src/lib.rt:168:5
 copy-into-requires : tie.Need-copy-into-requires
 copy-into-requires c κs = let o : 6 ≡ length (c .before .before .before .before .before .before .before .before .hardware-at .result .publicAddress) = slice-aggregate-copy-into c in let k = c .before .before .before .before .before .before .before .before .before .before .before .before .pre .1 in omega arith
 
--- src/lib.rt:169:31
 slice-aggregate-copy-into-2 : tie.Need-slice-aggregate-copy-into-2
 slice-aggregate-copy-into-2 c = search needs
 
--- src/lib.rt:169:5
 copy-into-requires-2 : tie.Need-copy-into-requires-2
 copy-into-requires-2 c κs = search needs
 
--- src/lib.rt:170:5
 copy-part-requires : tie.Need-copy-part-requires
 copy-part-requires c κs = let f = name-fits _ _ (c .before .before .before .before .before .before .before .before .before .before .before .before .before .before .before .before .before .before .before .before .before .pre .0 .below) (c .before .before .before .before .before .before .before .before .before .before .before .name-place .ensures) in let l = c .before .before .before .before .before .before .before .before .before .before .before .before .before .before .before .before .before .before .before .before .before .pre .0 .long in (search needs, omega arith)
 
--- src/lib.rt:156:1
 same-length : tie.Need-same-length
 same-length c = search needs
 
--- src/lib.rt:156:1
 returns : tie.Need-returns
 returns c = information-put _ _ _ _ _ _ _ _ _ _ _ _ _ _ (c .before .before .before .before .before .before .before .before .before .before .before .before .before .before .before .before .before .before .before .before .before .before .before .before .pre .0) (c .before .before .before .before .before .before .before .before .before .before .before .before .before .before .before .before .before .before .before .before .before .before .before .before .pre .1) (c .before .before .before .before .before .before .before .before .before .before .before .before .before .before .before .before .before .before .before .before .before .settings-at .ensures) (c .before .before .before .before .before .before .before .before .before .before .before .before .before .before .before .before .before .before .before .before .hardware-at .ensures) (c .before .before .before .before .before .before .before .before .before .before .before .before .before .before .before .before .before .before .before .current-settings .ensures) (c .before .before .before .before .before .before .before .before .before .before .before .before .before .before .before .before .before .before .table-place .ensures) (c .before .before .before .before .before .before .before .before .before .before .before .before .before .before .before .before .before .or-octets .ensures) (c .before .before .before .before .before .before .before .before .before .before .before .before .before .before .before .before .information-head .ensures) refl (slice-aggregate-copy-into (c .before .before .before .before .before .before .before .before .before .before .before .before)) (c .before .before .before .before .before .before .before .before .before .before .before .before .before .before .name-place .ensures) (c .before .before .before .before .before .before .before .before .before .before .before .copy-into .ensures) (c .before .before .before .before .before .before .copy-into2 .ensures) (c .before .before .copy-part .ensures)
 

@@ -1,32 +1,20 @@
--- Assumes nothing.
-use mathlib.Core.Path.{_≡_, refl, sym, ap, _∙_, subst}
-use mathlib.Core.List.{List, [], _∷_, _++_}
-use mathlib.Core.Logic.{⊎-elim}
-use Prim.Native.Nat.{ℕ, zero, suc, _+_, _-_, _*_, _≤_, _<_}
-use native.Mathlib.Omega.{arith}
-use lib.ListN.{length, take, drop, getD, set, length-set}
+-- `information::read_version` meets its contract.
+use Prim.Native.Nat.{_-_}
 use Rattle.information.proofs.General.{version-is}
 use Rattle.model.specs.Commands.{readVersion}
 use borrow.Author.Needs.{needs}
 use Rattle.information.proofs.read_version.Statement.{statement}
 use Rattle.information.proofs.read_version.Tie as tie
-use Rattle.information.proofs.read_version.Reads as reads
-use Rattle.information.proofs.read_version.Lts as lts
-use Rattle.information.proofs.general_reply.Reads as general-reply-reads
 
--- src/lib.rt:38:38
 slice-aggregate-general-reply : tie.Need-slice-aggregate-general-reply
 slice-aggregate-general-reply c = search needs
 
--- src/lib.rt:38:5
 general-reply-requires : tie.Need-general-reply-requires
 general-reply-requires c κs = search needs
 
--- src/lib.rt:33:1
 same-length : tie.Need-same-length
 same-length c = search needs
 
--- src/lib.rt:33:1
 returns : tie.Need-returns
 returns c = c .before .before .general-reply .ensures .gives _ readVersion (search needs) (version-is _)
 

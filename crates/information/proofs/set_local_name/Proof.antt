@@ -1,108 +1,75 @@
--- Assumes nothing.
-use mathlib.Core.Path.{_≡_, refl, sym, ap, _∙_, subst}
-use mathlib.Core.List.{List, [], _∷_, _++_}
-use mathlib.Core.Logic.{⊎-elim}
-use Prim.Native.Nat.{ℕ, zero, suc, _+_, _-_, _*_, _≤_, _<_}
+-- `information::set_local_name` meets its contract.
+use mathlib.Core.Path.{refl}
+use Prim.Native.Nat.{_-_}
 use native.Mathlib.Omega.{arith}
-use lib.ListN.{length, take, drop, getD, set, length-set}
 use Rattle.information.proofs.Name.{name-length, name-open, short-open, name-kept, name-new, name-fits}
 use borrow.Author.Needs.{needs}
 use Rattle.information.proofs.set_local_name.Statement.{statement}
 use Rattle.information.proofs.set_local_name.Tie as tie
-use Rattle.information.proofs.set_local_name.Reads as reads
-use Rattle.information.proofs.set_local_name.Lts as lts
-use Rattle.replies.proofs.refuse.Reads as refuse-reads
-use Rattle.layout.proofs.name_place.Reads as name-place-reads
-use Rattle.layout.proofs.put_name.Reads as put-name-reads
-use Rattle.octets.proofs.same_part.Reads as same-part-reads
-use Rattle.replies.proofs.command_complete.Reads as command-complete-reads
-use Rattle.replies.proofs.event.Reads as event-reads
 
--- src/lib.rt:110:9
 refuse-requires : tie.Need-refuse-requires
 refuse-requires c κs = search needs
 
--- src/lib.rt:110:9
 same-length : tie.Need-same-length
 same-length c = search needs
 
--- src/lib.rt:110:9
 returns : tie.Need-returns
 returns c = name-length _ _ _ _ _ _ (search needs) (search needs) (c .before .before .before .before .if1 .taken) (c .before .before .refuse .ensures .0) (c .before .before .refuse .ensures .1)
 
--- src/lib.rt:112:8
 shared-slice-read-if2 : tie.Need-shared-slice-read-if2
 shared-slice-read-if2 c = search needs
 
--- src/lib.rt:113:9
 refuse-requires-2 : tie.Need-refuse-requires-2
 refuse-requires-2 c κs = search needs
 
--- src/lib.rt:113:9
 same-length-2 : tie.Need-same-length-2
 same-length-2 c = search needs
 
--- src/lib.rt:113:9
 returns-2 : tie.Need-returns-2
 returns-2 c = name-open _ _ _ _ _ _ (search needs) (search needs) (c .before .before .before .before .before .before .if1 .left) (c .before .before .before .before .if2 .taken) (c .before .before .refuse2 .ensures .0) (c .before .before .refuse2 .ensures .1)
 
--- src/lib.rt:115:8
 shared-slice-read-if3 : tie.Need-shared-slice-read-if3
 shared-slice-read-if3 c = search needs
 
--- src/lib.rt:116:9
 refuse-requires-3 : tie.Need-refuse-requires-3
 refuse-requires-3 c κs = search needs
 
--- src/lib.rt:116:9
 same-length-3 : tie.Need-same-length-3
 same-length-3 c = search needs
 
--- src/lib.rt:116:9
 returns-3 : tie.Need-returns-3
 returns-3 c = short-open _ _ _ _ _ _ (search needs) (search needs) (c .before .before .before .before .before .before .before .before .if1 .left) (c .before .before .before .before .before .before .if2 .left) (c .before .before .before .before .if3 .taken) (c .before .before .refuse3 .ensures .0) (c .before .before .refuse3 .ensures .1)
 
--- src/lib.rt:118:9
 name-place-requires : tie.Need-name-place-requires
 name-place-requires c κs = search needs
 
--- src/lib.rt:119:9
 same-part-requires : tie.Need-same-part-requires
 same-part-requires c κs = let f = name-fits _ _ (c .before .before .before .before .before .before .before .before .before .before .pre .0 .below) (c .before .name-place .ensures) in let l = c .before .before .before .before .before .before .before .before .before .before .pre .0 .long in let n = c .before .before .before .before .before .before .if1 .left in (omega arith, omega arith)
 
--- src/lib.rt:120:5
 put-name-requires : tie.Need-put-name-requires
 put-name-requires c κs = search needs
 
--- src/lib.rt:121:5
 command-complete-requires : tie.Need-command-complete-requires
 command-complete-requires c κs = search needs
 
--- src/lib.rt:123:9
 same-length-4 : tie.Need-same-length-4
 same-length-4 c = search needs
 
--- src/lib.rt:123:9
 same-length-5 : tie.Need-same-length-5
 same-length-5 c = search needs
 
--- src/lib.rt:123:9
 returns-4 : tie.Need-returns-4
 returns-4 c = name-kept _ _ _ _ _ _ (search needs) (search needs) (c .before .before .before .before .before .before .before .before .before .before .before .before .before .before .before .before .if1 .left) (c .before .before .before .before .before .before .before .before .before .before .before .before .before .before .if2 .left) (c .before .before .before .before .before .before .before .before .before .before .before .before .if3 .left) _ (c .before .before .before .before .before .before .before .before .before .before .before .name-place .ensures) _ (c .before .before .before .before .before .before .before .before .before .same-part .ensures) _ (c .before .before .before .before .before .before .before .put-name .ensures) (c .if4 .taken) refl (c .before .before .before .command-complete .ensures)
 
--- src/lib.rt:125:5
 event-requires : tie.Need-event-requires
 event-requires c κs = search needs
 
--- src/lib.rt:105:1
 same-length-6 : tie.Need-same-length-6
 same-length-6 c = search needs
 
--- src/lib.rt:105:1
 same-length-7 : tie.Need-same-length-7
 same-length-7 c = search needs
 
--- src/lib.rt:105:1
 returns-5 : tie.Need-returns-5
 returns-5 c = name-new _ _ _ _ _ _ (search needs) (search needs) (c .before .before .before .before .before .before .before .before .before .before .before .before .before .before .before .before .before .before .before .before .if1 .left) (c .before .before .before .before .before .before .before .before .before .before .before .before .before .before .before .before .before .before .if2 .left) (c .before .before .before .before .before .before .before .before .before .before .before .before .before .before .before .before .if3 .left) _ (c .before .before .before .before .before .before .before .before .before .before .before .before .before .before .before .name-place .ensures) _ (c .before .before .before .before .before .before .before .before .before .before .before .before .before .same-part .ensures) _ (c .before .before .before .before .before .before .before .before .before .before .before .put-name .ensures) (c .before .before .before .before .if4 .left) _ (c .before .before .before .before .before .before .before .command-complete .ensures) (c .before .before .event .ensures) refl
 

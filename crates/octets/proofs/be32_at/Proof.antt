@@ -1,5 +1,4 @@
 -- `octets::be32_at` meets its contract. Two numbers of two octets are read, and the law `be32-is` says that the part of four spells this number.
-use mathlib.Core.Path.{_∙_}
 use native.Mathlib.Omega.{arith}
 use Rattle.octets.proofs.Laws.{be32-is}
 use borrow.Author.Needs.{needs}

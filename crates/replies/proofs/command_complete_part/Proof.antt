@@ -1,5 +1,4 @@
 -- `replies::command_complete_part` meets its contract. The head and the part, written one after the other, are the model's event.
--- Assumes nothing.
 use mathlib.Core.Path.{_∙_}
 use Rattle.replies.proofs.Laws.{complete-write}
 use Rattle.octets.specs.Parts.{length-part}

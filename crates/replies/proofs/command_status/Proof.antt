@@ -1,5 +1,4 @@
 -- `replies::command_status` meets its contract. The head of the event, the code and the status, written one after the other, are the model's event.
--- Assumes nothing.
 use Rattle.replies.proofs.Laws.{writes, status-is}
 use borrow.Author.Needs.{needs}
 use Rattle.replies.proofs.command_status.Statement.{statement}

@@ -1,5 +1,4 @@
 -- `replies::complete_head` meets its contract. The head of the event, the code and the status, written one after the other.
--- Assumes nothing.
 use Rattle.replies.proofs.Laws.{writes}
 use Rattle.replies.specs.Frames.{completeHead}
 use borrow.Author.Needs.{needs}

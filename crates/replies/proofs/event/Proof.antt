@@ -1,5 +1,4 @@
 -- `replies::event` meets its contract. The head and the parameters, written one after the other, are the model's event.
--- Assumes nothing.
 use mathlib.Core.Path.{refl, _∙_}
 use Rattle.replies.proofs.Laws.{event-write}
 use borrow.Author.Needs.{needs}

@@ -1,5 +1,4 @@
 -- `replies::event_head` meets its contract. Three numbers written one after the other are the head.
--- Assumes nothing.
 use Rattle.replies.proofs.Laws.{writes}
 use Rattle.replies.specs.Frames.{eventHead}
 use borrow.Author.Needs.{needs}

@@ -1,10 +1,10 @@
 -- `replies::new_settings` meets its contract. The head and the four octets of the settings, written one after the other, are the model's event.
--- Assumes nothing.
 use mathlib.Core.Path.{_∙_}
-use Rattle.replies.proofs.Laws.{event-write, length-le32}
+use Rattle.replies.proofs.Laws.{event-write}
 use borrow.Author.Needs.{needs}
 use Rattle.replies.proofs.new_settings.Statement.{statement}
 use Rattle.replies.proofs.new_settings.Tie as tie
+use Rattle.model.specs.Proof.Room.{length-le32}
 
 event-head-requires : tie.Need-event-head-requires
 event-head-requires c κs = search needs

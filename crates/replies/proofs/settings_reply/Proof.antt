@@ -1,5 +1,4 @@
 -- `replies::settings_reply` meets its contract. Where the settings are the same the reply is all; else New Settings follows it.
--- Assumes nothing.
 use mathlib.Core.Path.{_∙_}
 use Rattle.replies.proofs.Laws.{length-same, settings-same, length-new, settings-new}
 use borrow.Author.Needs.{needs}

@@ -1,17 +1,12 @@
 -- `restore::controllers_ok` meets its contract. The invariant: the controllers that are left decide.
-use mathlib.Core.Path.{_≡_, refl, sym, ap, _∙_, subst}
-use mathlib.Core.List.{List, [], _∷_, _++_}
-use mathlib.Core.Logic.{⊎-elim}
-use Prim.Native.Nat.{ℕ, zero, suc, _+_, _-_, _*_, _≤_, _<_}
+use mathlib.Core.Path.{_≡_, refl}
+use Prim.Native.Nat.{_-_, _≤_}
 use native.Mathlib.Omega.{arith}
-use lib.ListN.{length, take, drop, getD, set, length-set}
+use lib.ListN.{length, drop, getD}
 use Rattle.restore.specs.Accepting.{scans, scan-all, scan-bad, scan-high, scan-low, scan-over, scan-short, scan-turn}
 use borrow.Author.Needs.{needs}
 use Rattle.restore.proofs.controllers_ok.Statement.{statement}
 use Rattle.restore.proofs.controllers_ok.Tie as tie
-use Rattle.restore.proofs.controllers_ok.Reads as reads
-use Rattle.restore.proofs.controllers_ok.Lts as lts
-use Rattle.restore.proofs.controller_ends.Reads as controller-ends-reads
 
 abbrev Inv-loop : tie.InvT-loop
 Inv-loop image left₀ low₀ at₀ left low at = (at ≤ length image) × (scans left low (drop at image) ≡ scans (getD image 5 0) 0 (drop 6 image))
@@ -19,63 +14,48 @@ Inv-loop image left₀ low₀ at₀ left low at = (at ≤ length image) × (scan
 abbrev μ-loop : tie.MeasureT-loop
 μ-loop image left₀ low₀ at₀ left low at = left
 
--- src/lib.rt:191:20
 shared-slice-read-left : tie.Need-shared-slice-read-left Inv-loop μ-loop
 shared-slice-read-left c = search needs
 
--- src/lib.rt:194:5
 loop-holds : tie.Need-loop-holds Inv-loop μ-loop
 loop-holds c = (search needs, refl)
 
--- src/lib.rt:196:13
 returns : tie.Need-returns Inv-loop μ-loop
 returns c = scan-short _ _ _ _ _ (c .before .loop-test .taken) (c .before .before .loop .inv .1) (c .if1 .taken)
 
--- src/lib.rt:198:21
 shared-slice-read-index : tie.Need-shared-slice-read-index Inv-loop μ-loop
 shared-slice-read-index c = search needs
 
--- src/lib.rt:200:13
 returns-2 : tie.Need-returns-2 Inv-loop μ-loop
 returns-2 c = scan-low _ _ _ _ _ (c .before .before .before .loop-test .taken) (c .before .before .before .before .loop .inv .1) (c .before .before .if1 .left) (c .if2 .taken)
 
--- src/lib.rt:203:13
 returns-3 : tie.Need-returns-3 Inv-loop μ-loop
 returns-3 c = scan-high _ _ _ _ _ (c .before .before .before .before .loop-test .taken) (c .before .before .before .before .before .loop .inv .1) (c .before .before .before .if1 .left) (c .before .if2 .left) (c .if3 .taken)
 
--- src/lib.rt:205:37
 add-controller-ends : tie.Need-add-controller-ends Inv-loop μ-loop
 add-controller-ends c = search needs
 
--- src/lib.rt:205:9
 controller-ends-requires : tie.Need-controller-ends-requires Inv-loop μ-loop
 controller-ends-requires c κs = search needs
 
--- src/lib.rt:207:13
 returns-4 : tie.Need-returns-4 Inv-loop μ-loop
 returns-4 c = scan-bad _ _ _ _ _ (c .before .before .before .before .before .before .loop-test .taken) (c .before .before .before .before .before .before .before .loop .inv .1) (c .before .before .before .before .before .if1 .left) (c .before .before .before .if2 .left) (c .before .before .if3 .left) _ (c .before .controller-ends .ensures .1) (c .if4 .taken)
 
--- src/lib.rt:209:15
 add-low : tie.Need-add-low Inv-loop μ-loop
 add-low c = search needs
 
--- src/lib.rt:210:16
 sub-left : tie.Need-sub-left Inv-loop μ-loop
 sub-left c = search needs
 
--- src/lib.rt:194:5
 loop-less : tie.Need-loop-less Inv-loop μ-loop
 loop-less c = omega arith
 
--- src/lib.rt:194:5
 loop-again : tie.Need-loop-again Inv-loop μ-loop
 loop-again c = (c .before .controller-ends .ensures .0, scan-turn _ _ _ _ _ (c .before .before .before .before .before .before .loop-test .taken) (c .before .before .before .before .before .before .before .loop .inv .1) (c .before .before .before .before .before .if1 .left) (c .before .before .before .if2 .left) (c .before .before .if3 .left) _ (c .before .controller-ends .ensures .1) (c .if4 .left))
 
--- src/lib.rt:213:9
 returns-5 : tie.Need-returns-5 Inv-loop μ-loop
 returns-5 c = scan-all _ _ _ _ _ (c .before .loop-test .left) (c .before .before .loop .inv .1) (c .if5 .taken)
 
--- src/lib.rt:187:1
 returns-6 : tie.Need-returns-6 Inv-loop μ-loop
 returns-6 c = scan-over _ _ _ _ _ (c .before .loop-test .left) (c .before .before .loop .inv .1) (c .before .before .loop .inv .0) (c .if5 .left)
 

@@ -6,11 +6,11 @@ use lib.ListN.{length}
 use mathlib.Core.Bool.{true}
 use Rattle.model.specs.Octets.{bytes}
 use Rattle.layout.specs.Filled.{state-cleared}
-use Rattle.restore.specs.Filling.{slice-bytes}
 use Rattle.restore.specs.Loading.{Loads, image-long, loads-first, loads-last, loads-ready, loads-turn}
 use borrow.Author.Needs.{needs}
 use Rattle.restore.proofs.fill.Statement.{statement}
 use Rattle.restore.proofs.fill.Tie as tie
+use Rattle.model.specs.Proof.Tables.{slice-bytes}
 
 abbrev Inv-loop : tie.InvT-loop
 Inv-loop state₀ image left₀ at₀ state left at = (length state ≡ 16116) × Loads image state left at

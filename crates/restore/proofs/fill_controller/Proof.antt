@@ -1,11 +1,11 @@
 -- `restore::fill_controller` meets its contract: hardware, settings, name and tables, each written into a well-formed state.
 use Prim.Native.Nat.{_-_}
 use native.Mathlib.Omega.{arith}
-use Rattle.restore.specs.Filling.{slice-bytes}
 use Rattle.restore.specs.Controllers.{Awaited, address-long, controller-filled, fixed-room, hardware-ready, name-long, name-ready, settings-ready}
 use borrow.Author.Needs.{needs}
 use Rattle.restore.proofs.fill_controller.Statement.{statement}
 use Rattle.restore.proofs.fill_controller.Tie as tie
+use Rattle.model.specs.Proof.Tables.{slice-bytes}
 
 -- a controller was found at that place of the image, for an absent index
 awaited : (c : tie.After-shared-slice-known) → Awaited (c .before .before .args .state .now) (c .before .before .args .index) (c .before .before .args .image .now) (c .before .before .args .at)

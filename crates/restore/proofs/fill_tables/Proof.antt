@@ -3,13 +3,14 @@ use mathlib.Core.Path.{_≡_, refl}
 use Prim.Native.Nat.{_-_, _≤_}
 use native.Mathlib.Omega.{arith}
 use lib.ListN.{length}
-use Rattle.restore.specs.Filling.{TablesLeft, slice-bytes, tables-first, tables-last, tables-room, tables-turn}
+use Rattle.restore.specs.Filling.{TablesLeft, tables-first, tables-last, tables-room, tables-turn}
 use mathlib.Core.Bool.{true}
 use Rattle.model.specs.Octets.{bytes}
 use Rattle.layout.specs.Tables.{table-fits}
 use borrow.Author.Needs.{needs}
 use Rattle.restore.proofs.fill_tables.Statement.{statement}
 use Rattle.restore.proofs.fill_tables.Tie as tie
+use Rattle.model.specs.Proof.Tables.{slice-bytes}
 
 abbrev Inv-loop : tie.InvT-loop
 Inv-loop state₀ index image at p₀ k₀ state p k = (k ≤ 6) × (length state ≡ 16116) × TablesLeft state₀ index image at state k p

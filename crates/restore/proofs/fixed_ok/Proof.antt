@@ -1,71 +1,49 @@
 -- `restore::fixed_ok` meets its contract: each test is one of the model's.
-use mathlib.Core.Path.{_≡_, refl, sym, ap, _∙_, subst}
-use mathlib.Core.List.{List, [], _∷_, _++_}
-use mathlib.Core.Logic.{⊎-elim}
-use Prim.Native.Nat.{ℕ, zero, suc, _+_, _-_, _*_, _≤_, _<_}
-use native.Mathlib.Omega.{arith}
-use lib.ListN.{length, take, drop, getD, set, length-set}
+use Prim.Native.Nat.{_-_}
 use Rattle.restore.specs.Checking.{fixed-flags, fixed-last, fixed-name}
 use borrow.Author.Needs.{needs}
 use Rattle.restore.proofs.fixed_ok.Statement.{statement}
 use Rattle.restore.proofs.fixed_ok.Tie as tie
-use Rattle.restore.proofs.fixed_ok.Reads as reads
-use Rattle.restore.proofs.fixed_ok.Lts as lts
-use Rattle.octets.proofs.be32_at.Reads as be32-at-reads
 
--- src/lib.rt:157:40
 add-be32-at : tie.Need-add-be32-at
 add-be32-at c = search needs
 
--- src/lib.rt:157:9
 be32-at-requires : tie.Need-be32-at-requires
 be32-at-requires c κs = search needs
 
--- src/lib.rt:158:17
 mul-if1 : tie.Need-mul-if1
 mul-if1 c = search needs
 
--- src/lib.rt:158:37
 mul-if1-2 : tie.Need-mul-if1-2
 mul-if1-2 c = search needs
 
--- src/lib.rt:158:17
 add-if1 : tie.Need-add-if1
 add-if1 c = search needs
 
--- src/lib.rt:158:59
 mul-if1-3 : tie.Need-mul-if1-3
 mul-if1-3 c = search needs
 
--- src/lib.rt:158:17
 add-if1-2 : tie.Need-add-if1-2
 add-if1-2 c = search needs
 
--- src/lib.rt:159:18
 add-if2 : tie.Need-add-if2
 add-if2 c = search needs
 
--- src/lib.rt:159:12
 shared-slice-read-if2 : tie.Need-shared-slice-read-if2
 shared-slice-read-if2 c = search needs
 
--- src/lib.rt:160:26
 add-result : tie.Need-add-result
 add-result c = search needs
 
--- src/lib.rt:160:20
 shared-slice-read-result : tie.Need-shared-slice-read-result
 shared-slice-read-result c = search needs
 
--- src/lib.rt:160:13
 returns : tie.Need-returns
 returns c = fixed-last _ _ _ (c .before .before .before .before .be32-at .ensures .0) (c .before .before .before .if1 .taken) (c .before .if2 .taken)
 
--- src/lib.rt:162:9
 returns-2 : tie.Need-returns-2
 returns-2 c = fixed-name _ _ _ (c .before .before .before .be32-at .ensures .0) (c .before .before .if1 .taken) (c .if2 .left)
 
--- src/lib.rt:153:1
 returns-3 : tie.Need-returns-3
 returns-3 c = fixed-flags _ _ _ (c .before .be32-at .ensures .0) (c .if1 .left)
 

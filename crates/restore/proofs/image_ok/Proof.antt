@@ -1,44 +1,28 @@
 -- `restore::image_ok` meets its contract: each test is one of the model's, and the controllers decide.
-use mathlib.Core.Path.{_≡_, refl, sym, ap, _∙_, subst}
-use mathlib.Core.List.{List, [], _∷_, _++_}
-use mathlib.Core.Logic.{⊎-elim}
-use Prim.Native.Nat.{ℕ, zero, suc, _+_, _-_, _*_, _≤_, _<_}
-use native.Mathlib.Omega.{arith}
-use lib.ListN.{length, take, drop, getD, set, length-set}
+use Prim.Native.Nat.{_-_}
 use Rattle.restore.specs.Accepting.{image-length, image-rest, image-short, image-version}
 use borrow.Author.Needs.{needs}
 use Rattle.restore.proofs.image_ok.Statement.{statement}
 use Rattle.restore.proofs.image_ok.Tie as tie
-use Rattle.restore.proofs.image_ok.Reads as reads
-use Rattle.restore.proofs.image_ok.Lts as lts
-use Rattle.octets.proofs.be32_at.Reads as be32-at-reads
-use Rattle.restore.proofs.controllers_ok.Reads as controllers-ok-reads
 
--- src/lib.rt:227:9
 returns : tie.Need-returns
 returns c = image-short _ (c .if1 .taken)
 
--- src/lib.rt:229:8
 be32-at-requires : tie.Need-be32-at-requires
 be32-at-requires c κs = search needs
 
--- src/lib.rt:230:12
 shared-slice-read-if3 : tie.Need-shared-slice-read-if3
 shared-slice-read-if3 c = search needs
 
--- src/lib.rt:231:13
 controllers-ok-requires : tie.Need-controllers-ok-requires
 controllers-ok-requires c κs = search needs
 
--- src/lib.rt:231:13
 returns-2 : tie.Need-returns-2
 returns-2 c = image-rest _ (c .before .before .before .before .before .if1 .left) _ (c .before .before .before .before .be32-at .ensures .0) (c .before .before .before .if2 .taken) (c .before .if3 .taken) _ (c .controllers-ok .ensures)
 
--- src/lib.rt:233:9
 returns-3 : tie.Need-returns-3
 returns-3 c = image-version _ (c .before .before .before .before .if1 .left) _ (c .before .before .before .be32-at .ensures .0) (c .before .before .if2 .taken) (c .if3 .left)
 
--- src/lib.rt:223:1
 returns-4 : tie.Need-returns-4
 returns-4 c = image-length _ (c .before .before .if1 .left) _ (c .before .be32-at .ensures .0) (c .if2 .left)
 

@@ -1,42 +1,29 @@
 -- `restore::load` meets its contract: length, image, state.
-use mathlib.Core.Path.{_≡_, refl, sym, ap, _∙_, subst}
-use mathlib.Core.List.{List, [], _∷_, _++_}
-use mathlib.Core.Logic.{⊎-elim}
-use Prim.Native.Nat.{ℕ, zero, suc, _+_, _-_, _*_, _≤_, _<_}
-use native.Mathlib.Omega.{arith}
-use lib.ListN.{length, take, drop, getD, set, length-set}
+use mathlib.Core.Path.{refl, sym, ap, _∙_}
+use Prim.Native.Nat.{_-_}
+use lib.ListN.{length}
 use Rattle.model.specs.Octets.{Octets}
 use Rattle.model.specs.Hub.{Result}
 use Rattle.restore.specs.Accepting.{load-done, load-length, load-refused}
 use borrow.Author.Needs.{needs}
 use Rattle.restore.proofs.load.Statement.{statement}
 use Rattle.restore.proofs.load.Tie as tie
-use Rattle.restore.proofs.load.Reads as reads
-use Rattle.restore.proofs.load.Lts as lts
-use Rattle.restore.proofs.fill.Reads as fill-reads
-use Rattle.restore.proofs.image_ok.Reads as image-ok-reads
 
--- src/lib.rt:243:12
 image-ok-requires : tie.Need-image-ok-requires
 image-ok-requires c κs = search needs
 
--- src/lib.rt:244:13
 fill-requires : tie.Need-fill-requires
 fill-requires c κs = (c .before .before .before .if1 .taken, sym (c .before .before .image-ok .ensures) ∙ c .before .if2 .taken)
 
--- src/lib.rt:245:13
 same-length : tie.Need-same-length
 same-length c = search needs
 
--- src/lib.rt:245:13
 returns : tie.Need-returns
 returns c = let e = load-done (c .before .before .before .before .before .before .before .before .before .args .state .now) (c .before .before .before .before .before .before .before .before .before .args .image .now) (c .before .before .before .before .before .before .if1 .taken) (sym (c .before .before .before .before .before .image-ok .ensures) ∙ c .before .before .before .before .if2 .taken) _ (c .before .before .fill .ensures) in (sym (ap (λ (q : Result Octets). q .answer) e), refl, sym (ap (λ (q : Result Octets). q .state) e))
 
--- src/lib.rt:247:9
 returns-2 : tie.Need-returns-2
 returns-2 c = let e = load-refused (c .before .before .before .before .before .args .state .now) (c .before .before .before .before .before .args .image .now) (c .before .before .if1 .taken) (sym (c .before .image-ok .ensures) ∙ c .if2 .left) in (sym (ap (λ (q : Result Octets). q .answer) e), refl, sym (ap (λ (q : Result Octets). q .state) e))
 
--- src/lib.rt:239:1
 returns-3 : tie.Need-returns-3
 returns-3 c = let e = load-length (c .before .before .before .args .state .now) (c .before .before .before .args .image .now) (c .if1 .left) in (sym (ap (λ (q : Result Octets). q .answer) e), refl, sym (ap (λ (q : Result Octets). q .state) e))
 

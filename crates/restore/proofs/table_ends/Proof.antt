@@ -1,102 +1,73 @@
 -- `restore::table_ends` meets its contract: each test is one of the model's.
-use mathlib.Core.Path.{_≡_, refl, sym, ap, _∙_, subst}
-use mathlib.Core.List.{List, [], _∷_, _++_}
-use mathlib.Core.Logic.{⊎-elim}
-use Prim.Native.Nat.{ℕ, zero, suc, _+_, _-_, _*_, _≤_, _<_}
+use mathlib.Core.Path.{sym, _∙_}
+use Prim.Native.Nat.{_-_}
 use native.Mathlib.Omega.{arith}
-use lib.ListN.{length, take, drop, getD, set, length-set}
+use lib.ListN.{getD}
 use Rattle.restore.specs.Checking.{size-room, table-breaks, table-cut, table-empty, table-many, table-short, table-supported, table-unsupported}
 use borrow.Author.Needs.{needs}
 use Rattle.restore.proofs.table_ends.Statement.{statement}
 use Rattle.restore.proofs.table_ends.Tie as tie
-use Rattle.restore.proofs.table_ends.Reads as reads
-use Rattle.restore.proofs.table_ends.Lts as lts
-use Rattle.records.proofs.keeps_rule.Reads as keeps-rule-reads
-use Rattle.records.proofs.list_word.Reads as list-word-reads
-use Rattle.records.proofs.size_of.Reads as size-of-reads
-use Rattle.records.proofs.supports.Reads as supports-reads
 
--- src/lib.rt:111:9
 returns : tie.Need-returns
 returns c = (search needs, λ us f e. table-short _ f us _ _ (c .if1 .taken))
 
--- src/lib.rt:113:13
 shared-slice-read-n : tie.Need-shared-slice-read-n
 shared-slice-read-n c = search needs
 
--- src/lib.rt:113:13
 cast-n : tie.Need-cast-n
 cast-n c = omega (arith, c .shared-slice-known2 .given (c .before .before .before .args .place))
 
--- src/lib.rt:115:9
 returns-2 : tie.Need-returns-2
 returns-2 c = (search needs, λ us f e. table-many _ f us _ _ (omega arith) (c .if2 .taken))
 
--- src/lib.rt:117:9
 size-of-requires : tie.Need-size-of-requires
 size-of-requires c κs = search needs
 
--- src/lib.rt:118:8
 sub-if3 : tie.Need-sub-if3
 sub-if3 c = search needs
 
--- src/lib.rt:118:8
 sub-if3-2 : tie.Need-sub-if3-2
 sub-if3-2 c = search needs
 
--- src/lib.rt:118:34
 mul-if3 : tie.Need-mul-if3
 mul-if3 c = let g = size-room (c .before .before .before .before .before .args .k) (c .size-of .result) (getD (c .before .before .before .before .before .args .image .now) (c .before .before .before .before .before .args .place) 0) (c .before .before .before .before .before .pre) (c .size-of .ensures) (omega arith) in omega (arith, g)
 
--- src/lib.rt:119:9
 returns-3 : tie.Need-returns-3
 returns-3 c = (search needs, λ us f e. table-cut _ f us _ _ (omega arith) (omega arith) (rw (c .before .size-of .ensures) at (c .if3 .taken)))
 
--- src/lib.rt:121:38
 add-keeps-rule : tie.Need-add-keeps-rule
 add-keeps-rule c = search needs
 
--- src/lib.rt:121:52
 list-word-requires : tie.Need-list-word-requires
 list-word-requires c κs = search needs
 
--- src/lib.rt:121:8
 keeps-rule-requires : tie.Need-keeps-rule-requires
 keeps-rule-requires c κs = (search needs, search needs, let g = rw (c .before .before .size-of .ensures) at (c .before .if3 .left) in omega arith)
 
--- src/lib.rt:123:20
 add-result : tie.Need-add-result
 add-result c = search needs
 
--- src/lib.rt:123:13
 returns-4 : tie.Need-returns-4
 returns-4 c = (omega arith, λ us f e. table-empty _ f us _ _ (omega arith) (omega arith) (rw (c .before .before .before .before .before .size-of .ensures) at (c .before .before .before .before .if3 .left)) _ (c .before .before .before .list-word .ensures) (sym (c .before .before .keeps-rule .ensures) ∙ c .before .if4 .taken) (c .if5 .taken))
 
--- src/lib.rt:125:12
 supports-requires : tie.Need-supports-requires
 supports-requires c κs = search needs
 
--- src/lib.rt:126:20
 add-result-2 : tie.Need-add-result-2
 add-result-2 c = search needs
 
--- src/lib.rt:126:32
 mul-result : tie.Need-mul-result
 mul-result c = search needs
 
--- src/lib.rt:126:20
 add-result-3 : tie.Need-add-result-3
 add-result-3 c = search needs
 
--- src/lib.rt:126:13
 returns-5 : tie.Need-returns-5
 returns-5 c = (omega arith, λ us f e. table-supported _ f us _ _ (omega arith) (omega arith) (rw (c .before .before .before .before .before .before .before .size-of .ensures) at (c .before .before .before .before .before .before .if3 .left)) _ (c .before .before .before .before .before .list-word .ensures) (sym (c .before .before .before .before .keeps-rule .ensures) ∙ c .before .before .before .if4 .taken) (c .before .before .if5 .left) (sym (c .before .supports .ensures f e) ∙ c .if6 .taken) _ (c .before .before .before .before .before .before .before .size-of .ensures))
 
--- src/lib.rt:128:9
 returns-6 : tie.Need-returns-6
 returns-6 c = (search needs, λ us f e. table-unsupported _ f us _ _ (omega arith) (omega arith) (rw (c .before .before .before .before .before .before .before .size-of .ensures) at (c .before .before .before .before .before .before .if3 .left)) _ (c .before .before .before .before .before .list-word .ensures) (sym (c .before .before .before .before .keeps-rule .ensures) ∙ c .before .before .before .if4 .taken) (c .before .before .if5 .left) (sym (c .before .supports .ensures f e) ∙ c .if6 .left))
 
--- src/lib.rt:106:1
 returns-7 : tie.Need-returns-7
 returns-7 c = (search needs, λ us f e. table-breaks _ f us _ _ (omega arith) (omega arith) (rw (c .before .before .before .before .size-of .ensures) at (c .before .before .before .if3 .left)) _ (c .before .before .list-word .ensures) (sym (c .before .keeps-rule .ensures) ∙ c .if4 .left))
 

@@ -1,17 +1,11 @@
 -- `restore::tables_end` meets its contract. The invariant: the tables that are left decide.
-use mathlib.Core.Path.{_≡_, refl, sym, ap, _∙_, subst}
-use mathlib.Core.List.{List, [], _∷_, _++_}
-use mathlib.Core.Logic.{⊎-elim}
-use Prim.Native.Nat.{ℕ, zero, suc, _+_, _-_, _*_, _≤_, _<_}
+use Prim.Native.Nat.{_-_, _≤_, _<_}
 use native.Mathlib.Omega.{arith}
-use lib.ListN.{length, take, drop, getD, set, length-set}
+use lib.ListN.{length}
 use Rattle.restore.specs.Checking.{TablesGo, go-first, go-last, go-none, go-turn}
 use borrow.Author.Needs.{needs}
 use Rattle.restore.proofs.tables_end.Statement.{statement}
 use Rattle.restore.proofs.tables_end.Tie as tie
-use Rattle.restore.proofs.tables_end.Reads as reads
-use Rattle.restore.proofs.tables_end.Lts as lts
-use Rattle.restore.proofs.table_ends.Reads as table-ends-reads
 
 abbrev Inv-loop : tie.InvT-loop
 Inv-loop image place supported p₀ k₀ p k = (k ≤ 6) × (p ≤ length image) × (0 < p) × TablesGo image place supported k p
@@ -19,31 +13,24 @@ Inv-loop image place supported p₀ k₀ p k = (k ≤ 6) × (p ≤ length image)
 abbrev μ-loop : tie.MeasureT-loop
 μ-loop image place supported p₀ k₀ p k = 6 - k
 
--- src/lib.rt:142:5
 loop-holds : tie.Need-loop-holds Inv-loop μ-loop
 loop-holds c = (search needs, search needs, search needs, go-first _ _ _)
 
--- src/lib.rt:143:9
 table-ends-requires : tie.Need-table-ends-requires Inv-loop μ-loop
 table-ends-requires c κs = search needs
 
--- src/lib.rt:145:13
 returns : tie.Need-returns Inv-loop μ-loop
 returns c = (search needs, go-none _ _ _ _ _ _ (c .before .before .loop-test .taken) (c .before .before .before .loop .inv .3) (c .before .table-ends .ensures .1) (c .if1 .taken))
 
--- src/lib.rt:147:9
 add-k : tie.Need-add-k Inv-loop μ-loop
 add-k c = search needs
 
--- src/lib.rt:142:5
 loop-less : tie.Need-loop-less Inv-loop μ-loop
 loop-less c = omega arith
 
--- src/lib.rt:142:5
 loop-again : tie.Need-loop-again Inv-loop μ-loop
 loop-again c = (search needs, search needs, omega (arith, c .if1 .left), go-turn _ _ _ _ _ _ (c .before .before .loop-test .taken) (c .before .before .before .loop .inv .3) (c .before .table-ends .ensures .1) (c .if1 .left))
 
--- src/lib.rt:136:1
 returns-2 : tie.Need-returns-2 Inv-loop μ-loop
 returns-2 c = (search needs, go-last _ _ _ _ _ (search needs) (c .before .loop .inv .2) (c .before .loop .inv .3))
 

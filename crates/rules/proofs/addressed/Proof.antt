@@ -1,5 +1,4 @@
 -- `rules::addressed` meets its contract. The tests that led to each return pick the case of the model's definition.
--- Assumes nothing.
 use Rattle.model.specs.WellFormed.{addressed}
 use borrow.Author.Needs.{needs}
 use Rattle.rules.proofs.addressed.Statement.{statement}

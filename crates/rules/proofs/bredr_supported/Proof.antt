@@ -1,5 +1,4 @@
 -- `rules::bredr_supported` meets its contract. Bit 7 of the supported settings.
--- Assumes nothing.
 use mathlib.Core.Path.{refl}
 use Rattle.model.specs.State.{bredrSupported}
 use Rattle.model.specs.Octets.{bit}

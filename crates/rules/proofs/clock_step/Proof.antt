@@ -1,5 +1,4 @@
 -- `rules::clock_step` meets its contract. The number that the last reading added to wraps back to the new one is the step.
--- Assumes nothing.
 use Rattle.rules.proofs.Laws.{step-is}
 use borrow.Author.Needs.{needs}
 use Rattle.rules.proofs.clock_step.Statement.{statement}

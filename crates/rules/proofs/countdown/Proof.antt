@@ -1,5 +1,4 @@
 -- `rules::countdown` meets its contract. By whether the timer ends, does not run, or has more seconds left than the step.
--- Assumes nothing.
 use mathlib.Core.Path.{sym, _∙_}
 use Prim.Native.Nat.{_<_}
 use native.Mathlib.Omega.{arith}

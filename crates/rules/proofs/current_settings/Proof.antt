@@ -1,5 +1,4 @@
 -- `rules::current_settings` meets its contract. The sum of what each flag gives.
--- Assumes nothing.
 use Rattle.model.specs.State.{currentSettings}
 use borrow.Author.Needs.{needs}
 use Rattle.rules.proofs.current_settings.Statement.{statement}

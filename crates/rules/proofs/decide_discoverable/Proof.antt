@@ -1,5 +1,4 @@
 -- `rules::decide_discoverable` meets its contract. The tests that led to each return pick the first check that fails, or that none does.
--- Assumes nothing.
 use borrow.Author.Tests.{le-ltb, lt-ltb}
 use Rattle.rules.specs.Decisions.{decision, beforeBusyOf, afterBusyOf, waitOrAct}
 use Rattle.model.specs.Reasons.{firstOf, statusOf}

@@ -1,5 +1,4 @@
 -- `rules::decide_powered` meets its contract. The tests that led to each return pick the first check that fails, or that none does.
--- Assumes nothing.
 use mathlib.Core.Path.{sym, _∙_}
 use borrow.Author.Tests.{eq-eqb, ne-eqb, le-ltb, lt-ltb}
 use Rattle.rules.specs.Decisions.{decision, beforeBusyOf, afterBusyOf, waitOrAct}

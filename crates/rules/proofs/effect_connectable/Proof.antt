@@ -1,5 +1,4 @@
 -- `rules::effect_connectable` meets its contract. By whether discoverable ends.
--- Assumes nothing.
 use mathlib.Core.Path.{_∙_}
 use Rattle.rules.proofs.Laws.{connectable-on, connectable-off}
 use borrow.Author.Needs.{needs}

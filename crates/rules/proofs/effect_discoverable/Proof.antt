@@ -1,5 +1,4 @@
 -- `rules::effect_discoverable` meets its contract. The timer is that of the parameters.
--- Assumes nothing.
 use Rattle.rules.specs.Effects.{settingsEffect, controllerOf, settingsTimer}
 use Rattle.model.specs.State.{settingsOf, withTimer}
 use Rattle.model.specs.Octets.{octet}

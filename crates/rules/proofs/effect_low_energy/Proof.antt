@@ -1,5 +1,4 @@
 -- `rules::effect_low_energy` meets its contract. By its fields.
--- Assumes nothing.
 use mathlib.Core.Path.{refl}
 use Rattle.rules.specs.Effects.{settingsEffect, controllerOf}
 use Rattle.model.specs.State.{settingsOf, withLowEnergy}

@@ -1,5 +1,4 @@
 -- `rules::effect_powered` meets its contract. By whether the timer ends.
--- Assumes nothing.
 use mathlib.Core.Path.{sym, _∙_}
 use Rattle.rules.proofs.Laws.{powered-ends, powered-stays}
 use borrow.Author.Needs.{needs}

@@ -1,5 +1,4 @@
 -- `rules::effect_static_address` meets its contract. The six octets of the parameters are the address.
--- Assumes nothing.
 use Rattle.rules.specs.Effects.{settingsEffect, controllerOf}
 use Rattle.model.specs.State.{settingsOf, withStaticAddress}
 use Rattle.model.specs.Rules.{setStaticAddress}

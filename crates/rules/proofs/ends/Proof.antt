@@ -1,5 +1,4 @@
 -- `rules::ends` meets its contract. By the two tests.
--- Assumes nothing.
 use Rattle.model.specs.Hub.{ends}
 use borrow.Author.Needs.{needs}
 use Rattle.rules.proofs.ends.Statement.{statement}

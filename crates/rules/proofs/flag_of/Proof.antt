@@ -1,5 +1,4 @@
 -- `rules::flag_of` meets its contract. By the two cases of the flag.
--- Assumes nothing.
 use native.Mathlib.Omega.{arith}
 use Rattle.model.specs.State.{flag}
 use Rattle.rules.proofs.flag_of.Statement.{statement}

@@ -1,5 +1,4 @@
 -- `rules::hardware_ok` meets its contract. The tests that led to each return pick the case of the model's definition. The address has six octets.
--- Assumes nothing.
 use mathlib.Core.Path.{_∙_}
 use lib.ListN.{length}
 use borrow.Author.Tests.{eq-eqb, le-ltb, lt-ltb}

@@ -1,5 +1,4 @@
 -- `rules::le_supported` meets its contract. Bit 9 of the supported settings.
--- Assumes nothing.
 use mathlib.Core.Path.{refl}
 use Rattle.model.specs.State.{leSupported}
 use Rattle.model.specs.Octets.{bit}

@@ -1,5 +1,4 @@
 -- `rules::no_timer` meets its contract. By its fields.
--- Assumes nothing.
 use mathlib.Core.Path.{refl}
 use Rattle.model.specs.State.{noTimer}
 use Rattle.rules.proofs.no_timer.Statement.{statement}

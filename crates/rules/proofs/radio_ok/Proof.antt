@@ -1,5 +1,4 @@
 -- `rules::radio_ok` meets its contract. The tests that led to each return pick the case of the model's definition. The static address has six octets.
--- Assumes nothing.
 use mathlib.Core.Path.{_≡_}
 use native.Mathlib.Omega.{arith}
 use lib.ListN.{length}

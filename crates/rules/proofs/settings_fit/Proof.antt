@@ -1,5 +1,4 @@
 -- `rules::settings_fit` meets its contract. The tests that led to each return pick the case of the model's definition.
--- Assumes nothing.
 use Rattle.rules.specs.Decisions.{settingsOk}
 use Rattle.model.specs.WellFormed.{settingsFit}
 use borrow.Author.Needs.{needs}

@@ -1,5 +1,4 @@
 -- `rules::static_address_ok` meets its contract. The tests that led to each return pick the case of the model's definition.
--- Assumes nothing.
 use Rattle.model.specs.State.{staticAddressOk, staticRandom}
 use Rattle.model.specs.Octets.{octet}
 use borrow.Author.Needs.{needs}

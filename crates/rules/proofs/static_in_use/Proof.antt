@@ -1,5 +1,4 @@
 -- `rules::static_in_use` meets its contract. The tests that led to each return pick the case of the model's definition.
--- Assumes nothing.
 use Rattle.model.specs.State.{staticInUse}
 use borrow.Author.Needs.{needs}
 use Rattle.rules.proofs.static_in_use.Statement.{statement}

@@ -1,5 +1,4 @@
 -- `rules::with_bondable` meets its contract. By its fields.
--- Assumes nothing.
 use mathlib.Core.Path.{refl}
 use Rattle.rules.specs.Effects.{settingsBondable}
 use Rattle.rules.proofs.with_bondable.Statement.{statement}

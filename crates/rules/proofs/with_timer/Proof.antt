@@ -1,5 +1,4 @@
 -- `rules::with_timer` meets its contract. By its fields.
--- Assumes nothing.
 use mathlib.Core.Path.{refl}
 use Rattle.rules.specs.Effects.{settingsTimer}
 use Rattle.rules.proofs.with_timer.Statement.{statement}

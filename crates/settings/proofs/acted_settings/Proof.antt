@@ -1,10 +1,5 @@
--- Assumes nothing.
-use mathlib.Core.Path.{_≡_, refl, sym, ap, _∙_, subst}
-use mathlib.Core.List.{List, [], _∷_, _++_}
-use mathlib.Core.Logic.{⊎-elim}
-use Prim.Native.Nat.{ℕ, zero, suc, _+_, _-_, _*_, _≤_, _<_}
-use native.Mathlib.Omega.{arith}
-use lib.ListN.{length, take, drop, getD, set, length-set}
+-- `settings::acted_settings` meets its contract.
+use Prim.Native.Nat.{_-_}
 use Rattle.octets.proofs.Laws.{lent-part}
 use Rattle.settings.specs.Opens.{opens-powered, opens-discoverable, opens-connectable}
 use Rattle.settings.proofs.Bridge.{powered-size, discoverable-size, connectable-size, low-energy-size}
@@ -12,106 +7,76 @@ use Rattle.settings.proofs.Reporting.{makes-by, makes-last}
 use borrow.Author.Needs.{needs}
 use Rattle.settings.proofs.acted_settings.Statement.{statement}
 use Rattle.settings.proofs.acted_settings.Tie as tie
-use Rattle.settings.proofs.acted_settings.Reads as reads
-use Rattle.settings.proofs.acted_settings.Lts as lts
-use Rattle.rules.proofs.effect_connectable.Reads as effect-connectable-reads
-use Rattle.rules.proofs.effect_discoverable.Reads as effect-discoverable-reads
-use Rattle.rules.proofs.effect_low_energy.Reads as effect-low-energy-reads
-use Rattle.rules.proofs.effect_powered.Reads as effect-powered-reads
 
--- src/lib.rt:198:54
 add-effect-powered : tie.Need-add-effect-powered
 add-effect-powered c = search needs
 
--- src/lib.rt:198:43
 sub-effect-powered : tie.Need-sub-effect-powered
 sub-effect-powered c = search needs
 
--- src/lib.rt:198:43
 part-effect-powered-start : tie.Need-part-effect-powered-start
 part-effect-powered-start c = search needs
 
--- src/lib.rt:198:43
 part-effect-powered-end : tie.Need-part-effect-powered-end
 part-effect-powered-end c = search needs
 
--- src/lib.rt:198:9
 effect-powered-requires : tie.Need-effect-powered-requires
 effect-powered-requires c κs = search needs
 
--- src/lib.rt:198:9
 returns : tie.Need-returns
 returns c = makes-by _ _ _ _ _ _ _ _ _ opens-powered (c .before .before .if1 .taken) powered-size (lent-part _ _ _) (c .effect-powered .ensures)
 
--- src/lib.rt:201:59
 add-effect-discoverable : tie.Need-add-effect-discoverable
 add-effect-discoverable c = search needs
 
--- src/lib.rt:201:48
 sub-effect-discoverable : tie.Need-sub-effect-discoverable
 sub-effect-discoverable c = search needs
 
--- src/lib.rt:201:48
 part-effect-discoverable-start : tie.Need-part-effect-discoverable-start
 part-effect-discoverable-start c = search needs
 
--- src/lib.rt:201:48
 part-effect-discoverable-end : tie.Need-part-effect-discoverable-end
 part-effect-discoverable-end c = search needs
 
--- src/lib.rt:201:9
 effect-discoverable-requires : tie.Need-effect-discoverable-requires
 effect-discoverable-requires c κs = search needs
 
--- src/lib.rt:201:9
 returns-2 : tie.Need-returns-2
 returns-2 c = makes-by _ _ _ _ _ _ _ _ _ opens-discoverable (c .before .before .if2 .taken) discoverable-size (lent-part _ _ _) (c .effect-discoverable .ensures)
 
--- src/lib.rt:204:58
 add-effect-connectable : tie.Need-add-effect-connectable
 add-effect-connectable c = search needs
 
--- src/lib.rt:204:47
 sub-effect-connectable : tie.Need-sub-effect-connectable
 sub-effect-connectable c = search needs
 
--- src/lib.rt:204:47
 part-effect-connectable-start : tie.Need-part-effect-connectable-start
 part-effect-connectable-start c = search needs
 
--- src/lib.rt:204:47
 part-effect-connectable-end : tie.Need-part-effect-connectable-end
 part-effect-connectable-end c = search needs
 
--- src/lib.rt:204:9
 effect-connectable-requires : tie.Need-effect-connectable-requires
 effect-connectable-requires c κs = search needs
 
--- src/lib.rt:204:9
 returns-3 : tie.Need-returns-3
 returns-3 c = makes-by _ _ _ _ _ _ _ _ _ opens-connectable (c .before .before .if3 .taken) connectable-size (lent-part _ _ _) (c .effect-connectable .ensures)
 
--- src/lib.rt:206:46
 add-effect-low-energy : tie.Need-add-effect-low-energy
 add-effect-low-energy c = search needs
 
--- src/lib.rt:206:35
 sub-effect-low-energy : tie.Need-sub-effect-low-energy
 sub-effect-low-energy c = search needs
 
--- src/lib.rt:206:35
 part-effect-low-energy-start : tie.Need-part-effect-low-energy-start
 part-effect-low-energy-start c = search needs
 
--- src/lib.rt:206:35
 part-effect-low-energy-end : tie.Need-part-effect-low-energy-end
 part-effect-low-energy-end c = search needs
 
--- src/lib.rt:206:5
 effect-low-energy-requires : tie.Need-effect-low-energy-requires
 effect-low-energy-requires c κs = search needs
 
--- src/lib.rt:193:1
 returns-4 : tie.Need-returns-4
 returns-4 c = makes-last _ _ _ _ _ _ _ (c .before .before .before .before .if1 .left) (c .before .before .before .if2 .left) (c .before .before .if3 .left) low-energy-size (lent-part _ _ _) (c .effect-low-energy .ensures)
 

@@ -1,92 +1,64 @@
--- Assumes nothing.
-use mathlib.Core.Path.{_≡_, refl, sym, ap, _∙_, subst}
-use mathlib.Core.List.{List, [], _∷_, _++_}
-use mathlib.Core.Logic.{⊎-elim}
-use Prim.Native.Nat.{ℕ, zero, suc, _+_, _-_, _*_, _≤_, _<_}
-use native.Mathlib.Omega.{arith}
-use lib.ListN.{length, take, drop, getD, set, length-set}
+-- `settings::conclude` meets its contract.
+use Prim.Native.Nat.{_-_}
 use Rattle.settings.proofs.Bridge.{ends-early, reject-past, wait-past, act-past}
 use borrow.Author.Needs.{needs}
 use Rattle.settings.proofs.conclude.Statement.{statement}
 use Rattle.settings.proofs.conclude.Tie as tie
-use Rattle.settings.proofs.conclude.Reads as reads
-use Rattle.settings.proofs.conclude.Lts as lts
-use Rattle.settings.proofs.contend.Reads as contend-reads
-use Rattle.replies.proofs.refuse.Reads as refuse-reads
 
--- src/lib.rt:111:26
 enum-known-d : tie.Need-enum-known-d
 enum-known-d c = search needs
 
--- src/lib.rt:111:37
 refuse-requires : tie.Need-refuse-requires
 refuse-requires c κs = search needs
 
--- src/lib.rt:112:40
 enum-told : tie.Need-enum-told
 enum-told c = search needs
 
--- src/lib.rt:112:32
 contend-requires : tie.Need-contend-requires
 contend-requires c κs = search needs
 
--- src/lib.rt:113:35
 enum-told-2 : tie.Need-enum-told-2
 enum-told-2 c = search needs
 
--- src/lib.rt:113:27
 contend-requires-2 : tie.Need-contend-requires-2
 contend-requires-2 c κs = search needs
 
--- src/lib.rt:114:34
 enum-told-3 : tie.Need-enum-told-3
 enum-told-3 c = search needs
 
--- src/lib.rt:114:26
 contend-requires-3 : tie.Need-contend-requires-3
 contend-requires-3 c κs = search needs
 
--- src/lib.rt:97:1
 same-length : tie.Need-same-length
 same-length c = search needs
 
--- src/lib.rt:97:1
 returns : tie.Need-returns
 returns c = λ u f. ends-early _ _ _ _ u _ _ _ (search needs) (search needs) _ _ _ f _ (c .before .before .before .before .before .d .given .1) (c .before .before .refuse .ensures .0) (c .before .before .refuse .ensures .1)
 
--- src/lib.rt:97:1
 same-length-2 : tie.Need-same-length-2
 same-length-2 c = search needs
 
--- src/lib.rt:97:1
 same-length-3 : tie.Need-same-length-3
 same-length-3 c = search needs
 
--- src/lib.rt:97:1
 returns-2 : tie.Need-returns-2
 returns-2 c = λ u f. c .before .before .before .before .contend .ensures u f (reject-past _ _ _ u _ _ _ f _ (c .before .before .before .before .before .before .before .enum-told .given .1))
 
--- src/lib.rt:97:1
 same-length-4 : tie.Need-same-length-4
 same-length-4 c = search needs
 
--- src/lib.rt:97:1
 same-length-5 : tie.Need-same-length-5
 same-length-5 c = search needs
 
--- src/lib.rt:97:1
 returns-3 : tie.Need-returns-3
 returns-3 c = λ u f. c .before .before .before .before .contend2 .ensures u f (wait-past _ _ _ u _ _ _ f (c .before .before .before .before .before .before .before .enum-told2 .given .1))
 
--- src/lib.rt:97:1
 same-length-6 : tie.Need-same-length-6
 same-length-6 c = search needs
 
--- src/lib.rt:97:1
 same-length-7 : tie.Need-same-length-7
 same-length-7 c = search needs
 
--- src/lib.rt:97:1
 returns-4 : tie.Need-returns-4
 returns-4 c = λ u f. c .before .before .before .before .contend3 .ensures u f (act-past _ _ _ u _ _ _ f (c .before .before .before .before .before .before .before .enum-told3 .given .1))
 

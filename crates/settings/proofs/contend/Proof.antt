@@ -1,114 +1,80 @@
--- Assumes nothing.
-use mathlib.Core.Path.{_≡_, refl, sym, ap, _∙_, subst}
-use mathlib.Core.List.{List, [], _∷_, _++_}
-use mathlib.Core.Logic.{⊎-elim}
-use Prim.Native.Nat.{ℕ, zero, suc, _+_, _-_, _*_, _≤_, _<_}
-use native.Mathlib.Omega.{arith}
-use lib.ListN.{length, take, drop, getD, set, length-set}
+-- `settings::contend` meets its contract.
+use mathlib.Core.Path.{refl, sym, _∙_}
+use Prim.Native.Nat.{_-_}
 use Rattle.settings.proofs.Bridge.{ends-early, ends-busy, ends-late, ends-started, ends-acted}
 use borrow.Author.Needs.{needs}
 use Rattle.settings.proofs.contend.Statement.{statement}
 use Rattle.settings.proofs.contend.Tie as tie
-use Rattle.settings.proofs.contend.Reads as reads
-use Rattle.settings.proofs.contend.Lts as lts
-use Rattle.layout.proofs.open_code.Reads as open-code-reads
-use Rattle.layout.proofs.put_open.Reads as put-open-reads
-use Rattle.settings.proofs.apply.Reads as apply-reads
-use Rattle.replies.proofs.refuse.Reads as refuse-reads
 
--- src/lib.rt:82:8
 open-code-requires : tie.Need-open-code-requires
 open-code-requires c κs = search needs
 
--- src/lib.rt:83:9
 refuse-requires : tie.Need-refuse-requires
 refuse-requires c κs = search needs
 
--- src/lib.rt:83:9
 same-length : tie.Need-same-length
 same-length c = search needs
 
--- src/lib.rt:83:9
 same-length-2 : tie.Need-same-length-2
 same-length-2 c = search needs
 
--- src/lib.rt:83:9
 returns : tie.Need-returns
 returns c = λ u f p. ends-busy _ _ _ _ u _ _ _ (search needs) (search needs) _ _ _ f p (λ e. c .before .before .before .before .if1 .taken (c .before .before .before .before .before .open-code .ensures ∙ e)) (c .before .before .refuse .ensures .0) (c .before .before .refuse .ensures .1)
 
--- src/lib.rt:86:26
 enum-known-d : tie.Need-enum-known-d
 enum-known-d c = search needs
 
--- src/lib.rt:86:37
 refuse-requires-2 : tie.Need-refuse-requires-2
 refuse-requires-2 c κs = search needs
 
--- src/lib.rt:87:26
 enum-known-d-2 : tie.Need-enum-known-d-2
 enum-known-d-2 c = search needs
 
--- src/lib.rt:87:37
 refuse-requires-3 : tie.Need-refuse-requires-3
 refuse-requires-3 c κs = search needs
 
--- src/lib.rt:89:30
 enum-told : tie.Need-enum-told
 enum-told c = search needs
 
--- src/lib.rt:89:13
 put-open-requires : tie.Need-put-open-requires
 put-open-requires c κs = (search needs, search needs, search needs, c .before .before .before .before .before .before .before .before .before .pre .4 (c .before .enum-told .given .1))
 
--- src/lib.rt:92:32
 enum-told-2 : tie.Need-enum-told-2
 enum-told-2 c = search needs
 
--- src/lib.rt:92:26
 apply-requires : tie.Need-apply-requires
 apply-requires c κs = search needs
 
--- src/lib.rt:69:1
 same-length-3 : tie.Need-same-length-3
 same-length-3 c = search needs
 
--- src/lib.rt:69:1
 same-length-4 : tie.Need-same-length-4
 same-length-4 c = search needs
 
--- src/lib.rt:69:1
 returns-2 : tie.Need-returns-2
 returns-2 c = λ u f p. ends-early _ _ _ _ u _ _ _ (search needs) (search needs) _ _ _ f _ (c .before .before .before .before .before .d .given .1) (c .before .before .refuse2 .ensures .0) (c .before .before .refuse2 .ensures .1)
 
--- src/lib.rt:69:1
 same-length-5 : tie.Need-same-length-5
 same-length-5 c = search needs
 
--- src/lib.rt:69:1
 same-length-6 : tie.Need-same-length-6
 same-length-6 c = search needs
 
--- src/lib.rt:69:1
 returns-3 : tie.Need-returns-3
 returns-3 c = λ u f p. ends-late _ _ _ _ u _ _ _ (search needs) (search needs) _ _ _ f _ (c .before .before .before .before .before .d2 .given .1) (sym (c .before .before .before .before .before .before .before .before .open-code .ensures) ∙ c .before .before .before .before .before .before .before .if1 .left) (c .before .before .refuse3 .ensures .0) (c .before .before .refuse3 .ensures .1)
 
--- src/lib.rt:69:1
 same-length-7 : tie.Need-same-length-7
 same-length-7 c = search needs
 
--- src/lib.rt:69:1
 returns-4 : tie.Need-returns-4
 returns-4 c = λ u f p. ends-started _ _ _ _ u _ _ _ (search needs) (search needs) _ _ _ f (c .before .before .before .before .enum-told .given .1) (sym (c .before .before .before .before .before .before .before .open-code .ensures) ∙ c .before .before .before .before .before .before .if1 .left) refl _ (c .before .before .put-open .ensures) refl
 
--- src/lib.rt:69:1
 same-length-8 : tie.Need-same-length-8
 same-length-8 c = search needs
 
--- src/lib.rt:69:1
 same-length-9 : tie.Need-same-length-9
 same-length-9 c = search needs
 
--- src/lib.rt:69:1
 returns-5 : tie.Need-returns-5
 returns-5 c = λ u f p. ends-acted _ _ _ _ u _ _ _ (search needs) (search needs) _ _ _ f (c .before .before .before .before .before .before .before .enum-told2 .given .1) (sym (c .before .before .before .before .before .before .before .before .before .before .open-code .ensures) ∙ c .before .before .before .before .before .before .before .before .before .if1 .left) _ (c .before .before .before .before .apply .ensures .0) (c .before .before .before .before .apply .ensures .1) (c .before .before .before .before .apply .ensures .2)
 

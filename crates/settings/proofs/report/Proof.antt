@@ -1,92 +1,63 @@
--- Assumes nothing.
-use mathlib.Core.Path.{_≡_, refl, sym, ap, _∙_, subst}
-use mathlib.Core.List.{List, [], _∷_, _++_}
-use mathlib.Core.Logic.{⊎-elim}
-use Prim.Native.Nat.{ℕ, zero, suc, _+_, _-_, _*_, _≤_, _<_}
-use native.Mathlib.Omega.{arith}
-use lib.ListN.{length, take, drop, getD, set, length-set}
+-- `settings::report` meets its contract.
+use mathlib.Core.Path.{sym, _∙_}
+use Prim.Native.Nat.{_-_}
 use Rattle.layout.specs.Places.{present-below, ready}
 use Rattle.settings.proofs.Reporting.{report-absent, report-idle, report-above, report-failed}
 use borrow.Author.Needs.{needs}
 use Rattle.settings.proofs.report.Statement.{statement}
 use Rattle.settings.proofs.report.Tie as tie
-use Rattle.settings.proofs.report.Reads as reads
-use Rattle.settings.proofs.report.Lts as lts
-use Rattle.layout.proofs.clear_open.Reads as clear-open-reads
-use Rattle.layout.proofs.open_code.Reads as open-code-reads
-use Rattle.layout.proofs.present.Reads as present-reads
-use Rattle.replies.proofs.command_status.Reads as command-status-reads
-use Rattle.settings.proofs.finish.Reads as finish-reads
 
--- src/lib.rt:226:8
 present-requires : tie.Need-present-requires
 present-requires c κs = search needs
 
--- src/lib.rt:227:13
 open-code-requires : tie.Need-open-code-requires
 open-code-requires c κs = (search needs, present-below _ _ (sym (c .before .before .present .ensures) ∙ c .before .if1 .taken))
 
--- src/lib.rt:229:13
 same-length : tie.Need-same-length
 same-length c = search needs
 
--- src/lib.rt:229:13
 returns : tie.Need-returns
 returns c = report-idle _ _ _ _ (ready _ _ (c .before .before .before .before .before .before .before .before .pre .0) (sym (c .before .before .before .before .present .ensures) ∙ c .before .before .before .if1 .taken)) (sym (c .before .open-code .ensures) ∙ c .if2 .taken)
 
--- src/lib.rt:232:13
 same-length-2 : tie.Need-same-length-2
 same-length-2 c = search needs
 
--- src/lib.rt:232:13
 returns-2 : tie.Need-returns-2
 returns-2 c = report-above _ _ _ _ (ready _ _ (c .before .before .before .before .before .before .before .before .before .pre .0) (sym (c .before .before .before .before .before .present .ensures) ∙ c .before .before .before .before .if1 .taken)) (λ e. c .before .if2 .left (c .before .before .open-code .ensures ∙ e)) (c .if3 .taken)
 
--- src/lib.rt:235:13
 finish-requires : tie.Need-finish-requires
 finish-requires c κs = (ready _ _ (c .before .before .before .before .before .before .before .before .before .before .before .before .pre .0) (sym (c .before .before .before .before .before .before .before .before .present .ensures) ∙ c .before .before .before .before .before .before .before .if1 .taken), search needs, c .before .before .before .before .before .open-code .ensures, c .before .before .before .before .if2 .left)
 
--- src/lib.rt:235:13
 same-length-3 : tie.Need-same-length-3
 same-length-3 c = search needs
 
--- src/lib.rt:235:13
 same-length-4 : tie.Need-same-length-4
 same-length-4 c = search needs
 
--- src/lib.rt:235:13
 returns-3 : tie.Need-returns-3
 returns-3 c = rw (c .before .before .before .before .before .before .before .if4 .taken) (c .before .before .before .before .finish .ensures)
 
--- src/lib.rt:237:56
 cast-command-status : tie.Need-cast-command-status
 cast-command-status c = search needs
 
--- src/lib.rt:237:9
 command-status-requires : tie.Need-command-status-requires
 command-status-requires c κs = search needs
 
--- src/lib.rt:238:9
 clear-open-requires : tie.Need-clear-open-requires
 clear-open-requires c κs = ready _ _ (c .before .before .before .before .before .before .before .before .before .before .before .before .before .before .before .pre .0) (sym (c .before .before .before .before .before .before .before .before .before .before .before .present .ensures) ∙ c .before .before .before .before .before .before .before .before .before .before .if1 .taken)
 
--- src/lib.rt:239:9
 same-length-5 : tie.Need-same-length-5
 same-length-5 c = search needs
 
--- src/lib.rt:239:9
 same-length-6 : tie.Need-same-length-6
 same-length-6 c = search needs
 
--- src/lib.rt:239:9
 returns-4 : tie.Need-returns-4
 returns-4 c = report-failed _ _ _ _ _ _ _ (ready _ _ (c .before .before .before .before .before .before .before .before .before .before .before .before .before .before .before .before .before .before .pre .0) (sym (c .before .before .before .before .before .before .before .before .before .before .before .before .before .before .present .ensures) ∙ c .before .before .before .before .before .before .before .before .before .before .before .before .before .if1 .taken)) (search needs) (c .before .before .before .before .before .before .before .before .before .before .before .open-code .ensures) (c .before .before .before .before .before .before .before .before .before .before .if2 .left) (c .before .before .before .before .before .before .before .before .before .if3 .left) (c .before .before .before .before .before .before .before .before .if4 .left) (c .before .before .before .before .before .before .command-status .ensures) (c .before .before .clear-open .ensures)
 
--- src/lib.rt:222:1
 same-length-7 : tie.Need-same-length-7
 same-length-7 c = search needs
 
--- src/lib.rt:222:1
 returns-5 : tie.Need-returns-5
 returns-5 c = report-absent _ _ _ _ (c .before .before .before .before .before .pre .0) (sym (c .before .present .ensures) ∙ c .if1 .left)
 

@@ -1,60 +1,38 @@
--- Assumes nothing.
-use mathlib.Core.Path.{_≡_, refl, sym, ap, _∙_, subst}
-use mathlib.Core.List.{List, [], _∷_, _++_}
-use mathlib.Core.Logic.{⊎-elim}
-use Prim.Native.Nat.{ℕ, zero, suc, _+_, _-_, _*_, _≤_, _<_}
-use native.Mathlib.Omega.{arith}
-use lib.ListN.{length, take, drop, getD, set, length-set}
+-- `settings::set_discoverable` meets its contract.
+use Prim.Native.Nat.{_-_}
 use Rattle.rules.proofs.Ties.{discoverable-only}
 use Rattle.settings.proofs.Bridge.{concluded, ends-length, discoverable-size}
 use borrow.Author.Needs.{needs}
 use Rattle.settings.proofs.set_discoverable.Statement.{statement}
 use Rattle.settings.proofs.set_discoverable.Tie as tie
-use Rattle.settings.proofs.set_discoverable.Reads as reads
-use Rattle.settings.proofs.set_discoverable.Lts as lts
-use Rattle.layout.proofs.settings_at.Reads as settings-at-reads
-use Rattle.rules.proofs.decide_discoverable.Reads as decide-discoverable-reads
-use Rattle.rules.proofs.effect_discoverable.Reads as effect-discoverable-reads
-use Rattle.settings.proofs.conclude.Reads as conclude-reads
-use Rattle.replies.proofs.refuse.Reads as refuse-reads
 
--- src/lib.rt:138:9
 refuse-requires : tie.Need-refuse-requires
 refuse-requires c κs = search needs
 
--- src/lib.rt:138:9
 same-length : tie.Need-same-length
 same-length c = search needs
 
--- src/lib.rt:138:9
 returns : tie.Need-returns
 returns c = ends-length _ _ _ _ _ _ _ _ (search needs) (search needs) _ discoverable-size (c .before .before .before .before .if1 .taken) (c .before .before .refuse .ensures .0) (c .before .before .refuse .ensures .1)
 
--- src/lib.rt:140:9
 settings-at-requires : tie.Need-settings-at-requires
 settings-at-requires c κs = search needs
 
--- src/lib.rt:141:9
 decide-discoverable-requires : tie.Need-decide-discoverable-requires
 decide-discoverable-requires c κs = search needs
 
--- src/lib.rt:142:9
 effect-discoverable-requires : tie.Need-effect-discoverable-requires
 effect-discoverable-requires c κs = search needs
 
--- src/lib.rt:143:5
 conclude-requires : tie.Need-conclude-requires
 conclude-requires c κs = search needs
 
--- src/lib.rt:133:1
 same-length-2 : tie.Need-same-length-2
 same-length-2 c = search needs
 
--- src/lib.rt:133:1
 same-length-3 : tie.Need-same-length-3
 same-length-3 c = search needs
 
--- src/lib.rt:133:1
 returns-2 : tie.Need-returns-2
 returns-2 c = concluded _ _ _ _ _ _ _ _ _ _ _ _ _ (discoverable-only _ _) discoverable-size (c .before .before .before .before .before .before .before .before .before .before .before .if1 .left) (c .before .before .before .before .before .before .before .before .before .settings-at .ensures) (c .before .before .before .before .before .before .before .before .decide-discoverable .ensures) (c .before .before .before .before .before .before .before .effect-discoverable .ensures) (c .before .before .before .before .conclude .ensures)
 
