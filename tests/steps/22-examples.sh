@@ -5,3 +5,19 @@ cd "$(dirname "$0")/.."
 [ -n "${HUB_BUILT:-}" ] || rt staticlib hub > /dev/null
 export HUB_LIB_DIR="$PWD/../target/staticlib" CARGO_TARGET_DIR="$PWD/../target/tests"
 cargo run --release --offline --quiet -p compare --bin play -- examples/*.txt
+
+# The example of the README is C that compiles and does what its comments say: controller 0 is powered.
+cd ..
+out=target/tests/c
+mkdir -p "$out"
+{
+    echo '#include "hub.h"'
+    echo '#include <stdio.h>'
+    echo 'int main(void) {'
+    sed -n '/^```c$/,/^```$/p' README.md | grep -v '^```\|^#include'
+    echo 'printf("%u %zu\n", hub_answer(r), hub_count(r));'
+    echo 'return 0; }'
+} > "$out/readme.c"
+gcc -std=c11 -O2 -Wall -Wextra -Werror -Iinclude "$out/readme.c" target/staticlib/libhub.a -o "$out/readme"
+diff <("$out/readme") <(echo "0 23")
+echo "the README's example compiles, and powers its controller"
