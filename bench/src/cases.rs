@@ -49,6 +49,11 @@ fn report() -> Call {
     Call::Report { index: 0, status: 0, room: 1024 }
 }
 
+/// A save without room: the state is looked at, and nothing else is done.
+pub fn nothing() -> Case {
+    Case { name: "nothing", calls: vec![Call::Save { room: 0 }] }
+}
+
 /// Every case.
 pub fn all() -> Vec<Case> {
     let stranger = [0xEE, 0x22, 0x33, 0x44, 0x55, 0x66, 1];
