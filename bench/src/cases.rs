@@ -62,7 +62,10 @@ pub fn all() -> Vec<Case> {
     let case = |name, calls| Case { name, calls };
     vec![
         case("set_bondable", vec![command(0x0009, &[1]), command(0x0009, &[0])]),
-        case("set_powered_and_report", vec![command(0x0005, &[1]), report(), command(0x0005, &[0]), report()]),
+        case(
+            "set_powered_and_report",
+            vec![command(0x0005, &[1]), report(), command(0x0005, &[0]), report()],
+        ),
         case("read_information", vec![command(0x0004, &[])]),
         case("load_long_term_keys_32", vec![long_term_keys()]),
         case("add_and_remove_device", vec![command(0x0033, &device), command(0x0034, &stranger)]),

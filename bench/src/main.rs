@@ -17,18 +17,23 @@ use reference::Hub;
 use std::hint::black_box;
 use std::time::Instant;
 
+/// Rounds, and turns of a case in a round.
+const ROUNDS: usize = 40;
+const TURNS: u32 = 100;
 /// How full the tables are: a name, and the records in each table of each of four controllers.
 const FILLS: [(&str, usize); 4] = [("empty", 0), ("quarter", 8), ("half", 16), ("full", 32)];
 
-/// The least of some runs' nanoseconds for one turn.
-fn nanoseconds(mut turn: impl FnMut()) -> f64 {
-    let turns = 200;
-    let run = |_| {
-        let start = Instant::now();
-        (0..turns).for_each(|_| turn());
-        start.elapsed().as_nanos() as f64 / f64::from(turns)
-    };
-    (0..25).map(run).fold(f64::INFINITY, f64::min)
+/// The least of some rounds' nanoseconds for one turn of each: the turns of a round follow each other, so that a slow moment hits all of them.
+fn least<const N: usize>(mut turns: [&mut dyn FnMut(); N]) -> [f64; N] {
+    let mut best = [f64::INFINITY; N];
+    for _ in 0..ROUNDS {
+        for (turn, best) in turns.iter_mut().zip(&mut best) {
+            let start = Instant::now();
+            (0..TURNS).for_each(|_| turn());
+            *best = best.min(start.elapsed().as_nanos() as f64 / f64::from(TURNS));
+        }
+    }
+    best
 }
 
 /// The image of a state.
@@ -47,42 +52,44 @@ fn plain_hub(state: &[u8]) -> Hub {
     hub
 }
 
-/// Nanoseconds of the library for the calls of a case, one after the other.
-fn ours(case: &Case, state: &[u8]) -> f64 {
-    let (mut state, mut reply) = (state.to_vec(), vec![0; 16_014]);
-    nanoseconds(|| {
-        for call in &case.calls {
-            black_box(Library.call(black_box(&mut state), black_box(call), black_box(&mut reply[..call.room()])));
-        }
-    }) / case.calls.len() as f64
+/// Makes the calls of a case on the library, one after the other.
+fn ours(case: &Case, state: &mut [u8], reply: &mut [u8]) {
+    for call in &case.calls {
+        black_box(Library.call(black_box(state), black_box(call), black_box(&mut reply[..call.room()])));
+    }
 }
 
-/// Nanoseconds of plain Rust for the same: with the test of the lent octets, and without.
-fn theirs(case: &Case, state: &[u8]) -> (f64, f64) {
-    let mut hub = plain_hub(state);
-    let mut time = |test: bool| {
-        nanoseconds(|| {
-            for call in &case.calls {
-                assert!(!test || plain::well_formed(black_box(state)));
-                black_box(hub.call(black_box(call)));
-            }
-        }) / case.calls.len() as f64
-    };
-    (time(true), time(false))
+/// Makes them on the plain hub, each after a test of the lent octets if there are any.
+fn theirs(case: &Case, hub: &mut Hub, lent: Option<&[u8]>) {
+    for call in &case.calls {
+        assert!(lent.is_none_or(|state| plain::well_formed(black_box(state))));
+        black_box(hub.call(black_box(call)));
+    }
 }
 
 /// Times one case at every fill.
 fn calls(case: &Case) {
+    let nothing = cases::nothing();
     for (fill, used) in FILLS {
         let state = states::state(4, used);
-        case.agrees(&state, &plain_hub(&state));
-        let a = ours(case, &state);
-        let rest = a - ours(&cases::nothing(), &state);
-        let (b, alone) = theirs(case, &state);
+        let hub = plain_hub(&state);
+        case.agrees(&state, &hub);
+        let (mut lent, mut same) = (state.clone(), state.clone());
+        let (mut reply, mut none) = (vec![0; 16_014], Vec::new());
+        let (mut tested, mut alone) = (hub.clone(), hub);
+        let [a, look, b, c] = least([
+            &mut || ours(case, &mut lent, &mut reply),
+            &mut || ours(&nothing, &mut same, &mut none),
+            &mut || theirs(case, &mut tested, Some(&state)),
+            &mut || theirs(case, &mut alone, None),
+        ]);
+        let each = case.calls.len() as f64;
+        let (a, b, c) = (a / each, b / each, c / each);
         println!(
-            "{}_{fill} ratio {:.2}   ({a:.0} ns beside {b:.0} ns; without the test {rest:.0} ns beside {alone:.0} ns)",
+            "{}_{fill} ratio {:.2}   ({a:.0} ns beside {b:.0} ns; without the test {:.0} ns beside {c:.0} ns)",
             case.name,
-            a / b
+            a / b,
+            a - look
         );
     }
 }
@@ -92,12 +99,10 @@ fn loads() {
     for (fill, used) in FILLS {
         let image = image_of(&states::state(4, used));
         let (mut state, mut hub) = (vec![0; states::STATE], Hub::new());
-        let a = nanoseconds(|| {
-            black_box(Library.load(black_box(&mut state), black_box(&image)));
-        });
-        let b = nanoseconds(|| {
-            black_box(hub.load(black_box(&image)));
-        });
+        let [a, b] = least([
+            &mut || assert_eq!(Library.load(black_box(&mut state), black_box(&image)), 0),
+            &mut || assert_eq!(hub.load(black_box(&image)).answer, 0),
+        ]);
         println!("load_{fill} ratio {:.2}   ({a:.0} ns beside {b:.0} ns, {} octets)", a / b, image.len());
     }
 }
@@ -112,13 +117,15 @@ fn tests() {
     for (fill, used) in FILLS {
         let mut state = states::state(4, used);
         assert!(well_formed(&mut state) && plain::well_formed(&state), "{fill}");
-        let b = nanoseconds(|| {
-            black_box(plain::well_formed(black_box(&state)));
-        });
-        let a = nanoseconds(|| {
-            black_box(well_formed(black_box(&mut state)));
-        });
-        println!("well_formed_{fill} ratio {:.2}   ({a:.0} ns beside {b:.0} ns, {} records)", a / b, 24 * used);
+        let same = state.clone();
+        let [a, b] = least([&mut || assert!(well_formed(black_box(&mut state))), &mut || {
+            assert!(plain::well_formed(black_box(&same)))
+        }]);
+        println!(
+            "well_formed_{fill} ratio {:.2}   ({a:.0} ns beside {b:.0} ns, {} records)",
+            a / b,
+            24 * used
+        );
     }
 }
 

@@ -27,7 +27,9 @@ fn controller(b: &[u8]) -> bool {
     let [powered, connectable, discoverable, _, low_energy] = [19, 20, 21, 22, 23].map(|k| b[k] == 1);
     let timer = u16::from_le_bytes([b[24], b[25]]) != 0;
     let radio = (bredr || low_energy) && (le || (!low_energy && fixed)) && (fixed || b[31] >= 0xC0);
-    let fit = (!discoverable || connectable) && (!timer || (powered && discoverable)) && (!powered || !(public && fixed));
+    let fit = (!discoverable || connectable)
+        && (!timer || (powered && discoverable))
+        && (!powered || !(public && fixed));
     hardware
         && flags
         && radio
@@ -70,7 +72,12 @@ fn table(t: usize, region: &[u8], bredr: bool, le: bool) -> bool {
         if word >> k & 1 == 0 {
             zero(r)
         } else {
-            record(t, r) && !slots.chunks_exact(size).enumerate().skip(k + 1).any(|(j, q)| word >> j & 1 == 1 && same(t, r, q))
+            record(t, r)
+                && !slots
+                    .chunks_exact(size)
+                    .enumerate()
+                    .skip(k + 1)
+                    .any(|(j, q)| word >> j & 1 == 1 && same(t, r, q))
         }
     })
 }

@@ -12,7 +12,8 @@ fn record(table: usize, k: usize, out: &mut [u8]) {
     let k = k as u8 + 1;
     match table {
         0 => {
-            out[..16].copy_from_slice(&[0xFB, 0x34, 0x9B, 0x5F, 0x80, 0, 0, 0x80, 0, 0x10, 0, 0, k, 0x18, 0, 0]);
+            out[..16]
+                .copy_from_slice(&[0xFB, 0x34, 0x9B, 0x5F, 0x80, 0, 0, 0x80, 0, 0x10, 0, 0, k, 0x18, 0, 0]);
             out[16] = 0x20;
         }
         1 => address(k, 0, out),
