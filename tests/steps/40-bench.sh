@@ -1,0 +1,5 @@
+#!/usr/bin/env bash
+# the bench: it runs, and library and plain Rust agree on every case that it times
+set -euo pipefail
+cd "$(dirname "$0")/../.."
+bench/run
