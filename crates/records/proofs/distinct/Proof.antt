@@ -4,7 +4,7 @@ use mathlib.Core.Logic.{⊎-elim}
 use native.Mathlib.Omega.{arith}
 use lib.ListN.{length}
 use denote.Ref.{now}
-use Rattle.records.proofs.Laws.{Down, down-again, down-first, down-fits, down-free, down-last, down-room, down-told, down-used}
+use Rattle.records.proofs.Repeats.{Down, down-again, down-first, down-fits, down-free, down-last, down-room, down-told, down-used}
 use borrow.Author.Needs.{needs}
 use Rattle.records.proofs.distinct.Statement.{statement}
 use Rattle.records.proofs.distinct.Tie as tie

@@ -1,6 +1,7 @@
 -- `records::mark_of` meets its contract. The table's number picks the telling octet.
 use native.Mathlib.Omega.{arith}
-use Rattle.records.proofs.Laws.{mark-address, mark-uuid, size-least, size0}
+use Rattle.records.proofs.Laws.{size-least, size0}
+use Rattle.records.proofs.Repeats.{mark-address, mark-uuid}
 use borrow.Author.Needs.{needs}
 use Rattle.records.proofs.mark_of.Statement.{statement}
 use Rattle.records.proofs.mark_of.Tie as tie

@@ -4,7 +4,8 @@ use mathlib.Core.Logic.{⊎-elim}
 use Prim.Native.Nat.{_+_, _*_, _≤_}
 use native.Mathlib.Omega.{arith}
 use lib.ListN.{length}
-use Rattle.records.proofs.Laws.{room, any-hit, any-miss, any-free, any-none, any-end}
+use Rattle.records.proofs.Laws.{room}
+use Rattle.records.proofs.Repeats.{any-hit, any-miss, any-free, any-none, any-end}
 use denote.Ref.{now}
 use mathlib.Core.List.{map}
 use Rattle.model.specs.Octets.{same}

@@ -2,7 +2,8 @@
 use mathlib.Core.Path.{_∙_}
 use mathlib.Core.Logic.{⊎-elim}
 use native.Mathlib.Omega.{arith}
-use Rattle.records.proofs.Laws.{size0, size2, size-least, uuid-same, uuid-differs, master-same, master-differs, address-same, address-differs}
+use Rattle.records.proofs.Laws.{size0, size2, size-least}
+use Rattle.records.proofs.Repeats.{uuid-same, uuid-differs, master-same, master-differs, address-same, address-differs}
 use borrow.Author.Needs.{needs}
 use Rattle.records.proofs.same_identity.Statement.{statement}
 use Rattle.records.proofs.same_identity.Tie as tie
