@@ -84,11 +84,6 @@ pub place-one : (i : ℕ) → placeOf i 1 ≡ base i + 1
 unfolding placeOf placeAt sizes
 place-one i = refl
 
--- the name lies 32 octets into a block
-pub place-name : (i : ℕ) → placeOf i 4 ≡ base i + 32
-unfolding placeOf placeAt sizes
-place-name i = refl
-
 -- the names' last octets, where they lie
 pub name-is : (s : Octets) (i at : ℕ) → at ≡ placeOf i 4 → nameOk (controllerOf s i .host .name) ≡ eqb (getD s (at + 248) 0) 0 && eqb (getD s (at + 259) 0) 0
 unfolding nameOk nameEnds shortNameEnds octet

@@ -121,6 +121,11 @@ presentFine s i =
     && (openFine (controllerOf s i .radio) (u16 s (base i + 1)) (part s (base i + 1 + 2) 3)
     && tablesFine (controllerOf s i .radio .hardware) tableRules s (base i + 292)))))
 
+-- the name lies 32 octets into a block
+pub place-name : (i : ℕ) → placeOf i 4 ≡ base i + 32
+unfolding placeOf placeAt sizes
+place-name i = refl
+
 module _ (s : Octets) (i : ℕ) (w : bytes s ≡ true) (h : base i + 4028 ≤ length s) where
   -- the tables, one after the other
   tables-here : controllerOf s i .host .tables ≡ tablesBack tableRules (part s (base i + 292) 3736)
@@ -136,14 +141,9 @@ module _ (s : Octets) (i : ℕ) (w : bytes s ≡ true) (h : base i + 4028 ≤ le
       ≡ tablesFine (controllerOf s i .radio .hardware) tableRules s (base i + 292)
   tables-fine = rw tables-here (rw total-six at (tables-are (controllerOf s i .radio .hardware) tableRules s (base i + 292) w (rw total-six (omega arith))))
 
-  -- the name is piece 4 of a block, 32 octets in
-  name-place : placeOf i 4 ≡ base i + 32
-  unfolding placeOf placeAt sizes
-  name-place = refl
-
   -- what lies there is the controller's name
   name-here : part s (base i + 32) 260 ≡ controllerOf s i .host .name
-  name-here = rw (← name-place) (name-at s i)
+  name-here = rw (← place-name i) (name-at s i)
 
   -- numbers and octets are as wide as their types
   widths : widthsOk (controllerOf s i) ≡ true

@@ -37,6 +37,7 @@ use Rattle.replies.specs.Answers.{Gives}
 use Rattle.replies.specs.declared.Answer.{Answer}
 use Rattle.replies.specs.declared.Answer.the-variants.{Done}
 use Rattle.image.specs.Images.{fixedImage, image-parts, numbersImage}
+use Rattle.replies.proofs.Laws.{then}
 
 -- 1. The records of a table ---------------------------------------------------------------------------------------------------------------------
 
@@ -192,10 +193,6 @@ module _ (s : Octets) (i : ℕ) (ready : Ready s i) (d₀ : Octets) (p₀ : ℕ)
       (goes-none p _ (rw f at (v .goes)), omega (arith, v .room, most-below k u), sym (write-none d p) ∙ (rw f at (v .left)))
 
 -- 3. The fixed part, and a controller ---------------------------------------------------------------------------------------------------------------
-
--- two writes one behind the other
-pub then : (d : Octets) (p : ℕ) (a b : Octets) (q : ℕ) → q ≡ p + length a → writeAt (writeAt d p a) q b ≡ writeAt d p (a ++ b)
-then d p a b q e = rw e (sym (write-split d p a b))
 
 -- version 1, manufacturer 2, supported 4, flags 4: the numbers have 11 octets
 pub length-numbers : (m : Settings) → length (numbersImage m) ≡ 11

@@ -1,10 +1,11 @@
 -- `checks::name_ok` meets its contract. The law `name-is` gives the names' last octets where they lie.
 use mathlib.Core.Path.{_∙_}
 use native.Mathlib.Omega.{arith}
-use Rattle.checks.proofs.Laws.{tests, place-name, name-is}
+use Rattle.checks.proofs.Laws.{tests, name-is}
 use borrow.Author.Needs.{needs}
 use Rattle.checks.proofs.name_ok.Statement.{statement}
 use Rattle.checks.proofs.name_ok.Tie as tie
+use Rattle.checks.specs.Present.{place-name}
 
 name-place-requires : tie.Need-name-place-requires
 name-place-requires c κs = search needs
