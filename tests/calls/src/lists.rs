@@ -126,6 +126,33 @@ fn show(index: u16, shown: usize) -> Call {
     Call::Command { packet: frame(code, index, &parameters), room: REPLY_ROOM }
 }
 
+/// A command to an index that is started there, where nothing is under way yet; none where nothing can be started.
+fn starts(random: &mut Random, hub: &Hub, index: usize) -> Option<Call> {
+    let controller = hub.state().controllers[index].as_ref()?;
+    let hardware = &controller.hardware;
+    if hub.open(index as u64).is_some() || !(controller.powered || controller.has_address()) {
+        return None;
+    }
+    let (code, parameters) = match random.below(4) {
+        _ if !controller.powered => (code::SET_POWERED, vec![1]),
+        0 if hardware.supports_br_edr() && controller.connectable => {
+            (code::SET_DISCOVERABLE, vec![random.between(1, 2) as u8, 1 + random.octet() / 2, random.octet()])
+        }
+        1 if hardware.supports_low_energy() => (code::SET_LOW_ENERGY, vec![1]),
+        2 => (code::SET_CONNECTABLE, vec![random.below(2) as u8]),
+        _ => (code::SET_POWERED, vec![0]),
+    };
+    Some(Call::Command { packet: frame(code, index as u16, &parameters), room: REPLY_ROOM })
+}
+
+/// How a list ends.
+enum End {
+    /// What is under way fails, and all is shown.
+    Closed(Closing),
+    /// A command is left under way at each index where that can be; those from this one on are still to be tried.
+    Open(usize),
+}
+
 /// A source of whole lists for one seed.
 pub struct Lists {
     /// Where the calls come from.
@@ -135,13 +162,14 @@ pub struct Lists {
     /// How many calls the list still has before its end.
     left: usize,
     /// The calls at its end.
-    closing: Closing,
+    end: End,
 }
 
 impl Lists {
     /// Lists for a seed.
     pub fn new(seed: u64) -> Lists {
-        Lists { generator: Generator::new(seed), last: EMPTY.to_vec(), left: 0, closing: Closing::new() }
+        let end = End::Closed(Closing::new());
+        Lists { generator: Generator::new(seed), last: EMPTY.to_vec(), left: 0, end }
     }
 
     /// Starts a list: the image, and the hub made from it.
@@ -149,17 +177,38 @@ impl Lists {
         let random = self.generator.random();
         let image = start(random, &self.last);
         self.left = length(random);
-        self.closing = Closing::new();
+        self.end = End::Closed(Closing::new());
         let mut hub = Hub::new();
         let reply = hub.load(&image);
         assert_eq!(reply.answer, 0, "lists start from acceptable images");
         (image, hub)
     }
 
+    /// Starts a list that ends with commands under way.
+    pub fn start_open(&mut self) -> (Vec<u8>, Hub) {
+        let started = self.start();
+        self.end = End::Open(0);
+        started
+    }
+
+    /// The next of the calls that end the list.
+    fn next_of_end(&mut self, hub: &Hub) -> Option<Call> {
+        match &mut self.end {
+            End::Closed(closing) => closing.next(hub),
+            End::Open(index) => {
+                let random = self.generator.random();
+                let found = (*index..CONTROLLERS).find_map(|k| Some((k + 1, starts(random, hub, k)?)));
+                let (next, call) = found?;
+                *index = next;
+                Some(call)
+            }
+        }
+    }
+
     /// The next call of the list, chosen with the hub in view, or none at its end.
     pub fn next(&mut self, hub: &Hub) -> Option<Call> {
         if self.left == 0 {
-            return self.closing.next(hub);
+            return self.next_of_end(hub);
         }
         self.left -= 1;
         let call = self.generator.next(hub);

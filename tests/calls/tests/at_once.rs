@@ -3,6 +3,7 @@
 use calls::lists::Lists;
 use reference::codes::IMAGE_ROOM;
 use reference::{reduce, AtOnceHub, Call, Hub, Traced};
+use std::collections::BTreeMap;
 
 /// Runs one list on the hub, the calls at its end included or not.
 fn trace(lists: &mut Lists, whole: bool) -> (Vec<u8>, Hub, Vec<Traced>) {
@@ -44,6 +45,32 @@ fn reduced_lists_agree() {
         moved += list.iter().filter(|traced| traced.answer == 1).count();
     }
     assert!(calls > 200_000 && open > 100 && moved > 2_000, "{calls} calls, {open} open, {moved} started");
+}
+
+#[test]
+fn lists_that_end_with_commands_under_way_agree() {
+    let mut lists = Lists::new(9);
+    let mut codes = BTreeMap::new();
+    for _ in 0..150 {
+        let (image, mut hub) = lists.start_open();
+        let mut list = Vec::new();
+        while !lists.is_closing() {
+            let call = lists.next(&hub).expect("the list goes on");
+            let reply = hub.call(&call);
+            list.push(Traced::new(call, reply));
+        }
+        while let Some(call) = lists.next(&hub) {
+            let reply = hub.call(&call);
+            assert_eq!(reply.answer, 1, "{call:?}");
+            list.push(Traced::new(call, reply));
+        }
+        for command in (0..4).filter_map(|index| hub.open(index)) {
+            *codes.entry(command.code()).or_insert(0) += 1;
+        }
+        compare(&image, &hub, &list);
+    }
+    assert_eq!(codes.keys().copied().collect::<Vec<u16>>(), [0x0005, 0x0006, 0x0007, 0x000D]);
+    assert!(codes.values().all(|count| *count > 5), "{codes:?}");
 }
 
 #[test]

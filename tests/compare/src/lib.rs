@@ -1,9 +1,10 @@
 //! The comparison of a hub that is called as a C host calls it with the
-//! reference hub: answers, octets, images, and the at-once hub.
+//! reference hub: answers, octets, states, images, and the at-once hub.
 
 #![forbid(unsafe_code)]
 #![warn(missing_docs)]
 
+pub mod layout;
 pub mod lent;
 pub mod mirror;
 pub mod run;

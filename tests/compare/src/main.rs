@@ -37,10 +37,11 @@ fn main() -> ExitCode {
     let mut comparison = Comparison::new(seed, Library, Library);
     let result = comparison.run(count);
     println!(
-        "{} calls in {} lists, {} calls of reduced lists, {} images, {:.1} s",
+        "{} calls in {} lists, {} calls of reduced lists, {} commands under way at an end, {} images, {:.1} s",
         comparison.calls,
         comparison.runs,
         comparison.reduced,
+        comparison.left_open,
         comparison.images,
         start.elapsed().as_secs_f64()
     );
@@ -51,6 +52,7 @@ fn main() -> ExitCode {
         }
         Err(failure) => {
             println!("a list of {} calls differs: {}", failure.calls.len(), failure.difference);
+            println!("the same run again: compare {count} {seed}");
             show(&shrink(comparison.lent(), failure));
             ExitCode::FAILURE
         }

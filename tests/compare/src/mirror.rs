@@ -1,23 +1,22 @@
 //! The reference hub behind a state buffer, to try the comparison itself.
 //!
-//! The buffer holds no more than a mark for the state; the states that belong
-//! to the last marks are kept aside.
+//! The buffer holds the octets of the state; they are not read back, but looked
+//! for among those of the last states, which are kept aside.
 
+use crate::layout::{encode, STATE};
 use crate::target::Target;
 use reference::codes::answer;
 use reference::{Call, Hub, Reply};
-use std::collections::hash_map::DefaultHasher;
 use std::collections::VecDeque;
-use std::hash::{Hash, Hasher};
 
 /// How many states are kept.
 const KEPT: usize = 16;
 
-/// The states that the marks stand for.
+/// The last states.
 #[derive(Default)]
 pub struct Mirror {
-    /// The last marks with their states.
-    kept: VecDeque<(u64, Hub)>,
+    /// Their octets, with the hubs that they stand for.
+    kept: VecDeque<(Vec<u8>, Hub)>,
 }
 
 /// The number that a C host gets for a reply, its octets written.
@@ -29,22 +28,15 @@ pub fn number(reply: &Reply, buffer: &mut [u8]) -> u64 {
 impl Mirror {
     /// The hub that a buffer stands for.
     fn read(&self, state: &[u8]) -> Option<Hub> {
-        if state.len() != Mirror::STATE_LEN || state[8..].iter().any(|octet| *octet != 0) {
-            return None;
-        }
-        let mark = u64::from_le_bytes(state[..8].try_into().expect("eight octets"));
-        self.kept.iter().find(|(kept, _)| *kept == mark).map(|(_, hub)| hub.clone())
+        self.kept.iter().rev().find(|(kept, _)| kept == state).map(|(_, hub)| hub.clone())
     }
 
-    /// Puts the mark of a hub into a buffer.
+    /// Puts the octets of a hub into a buffer.
     fn write(&mut self, state: &mut [u8], hub: Hub) {
-        let mut hasher = DefaultHasher::new();
-        hub.hash(&mut hasher);
-        let mark = hasher.finish();
-        state.fill(0);
-        state[..8].copy_from_slice(&mark.to_le_bytes());
-        if !self.kept.iter().any(|(kept, _)| *kept == mark) {
-            self.kept.push_back((mark, hub));
+        let octets = encode(&hub);
+        state.copy_from_slice(&octets);
+        if !self.kept.iter().any(|(kept, _)| *kept == octets) {
+            self.kept.push_back((octets, hub));
             if self.kept.len() > KEPT {
                 self.kept.pop_front();
             }
@@ -53,7 +45,7 @@ impl Mirror {
 }
 
 impl Target for Mirror {
-    const STATE_LEN: usize = 16_116;
+    const STATE_LEN: usize = STATE;
 
     fn call(&mut self, state: &mut [u8], call: &Call, reply: &mut [u8]) -> u64 {
         let Some(mut hub) = self.read(state) else {

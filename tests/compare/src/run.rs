@@ -1,5 +1,6 @@
 //! Random lists and images on a target and on the reference hub side by side.
 
+use crate::layout::{cleared, encode, encode_at_once, same_state};
 use crate::lent::{Difference, Lent};
 use crate::target::Target;
 use calls::lists::Lists;
@@ -11,6 +12,8 @@ use reference::{reduce, AtOnceHub, Call, Hub, Reply, Traced};
 const SAVES: usize = 50;
 /// How many images are loaded after each list.
 const IMAGES: usize = 8;
+/// Of so many lists one ends with commands under way.
+const OPEN_ENDS: usize = 3;
 
 /// A comparison with what it has done so far.
 pub struct Comparison<T: Target> {
@@ -28,6 +31,8 @@ pub struct Comparison<T: Target> {
     pub images: usize,
     /// Calls left over by the reduction and fed to the at-once hub.
     pub reduced: usize,
+    /// Commands that were under way at the end of a list.
+    pub left_open: usize,
 }
 
 /// A list that the hubs differ on.
@@ -54,12 +59,26 @@ pub fn same(what: &str, expected: &Reply, found: &Reply) -> Result<(), Differenc
     Err(format!("{what}\n  expected {}\n  found    {}", shown(expected), shown(found)))
 }
 
-/// Makes a call on both and compares.
+/// Makes a call on both and compares what they give and their states, octet for octet.
 pub fn step<T: Target>(lent: &mut Lent<T>, hub: &mut Hub, call: &Call) -> Result<Reply, Difference> {
     let expected = hub.call(call);
     let found = lent.call(call)?;
     same("the reply differs", &expected, &found)?;
+    same_state("the state differs", &encode(hub), lent.state())?;
     Ok(found)
+}
+
+/// Loads an image on both and compares the answers and, if it is taken, what it makes; tells whether it is.
+pub fn image_agrees<T: Target>(lent: &mut Lent<T>, hub: &mut Hub, image: &[u8]) -> Result<bool, Difference> {
+    let expected = hub.load(image).answer;
+    let found = lent.load(image)?;
+    if expected != found {
+        return Err(format!("load answers {found}, expected {expected}"));
+    }
+    if found == answer::DONE {
+        same_state("the state of an image", &encode(hub), lent.state())?;
+    }
+    Ok(found == answer::DONE)
 }
 
 /// Compares the images of both.
@@ -72,8 +91,16 @@ impl<T: Target> Comparison<T> {
     /// A comparison of two targets alike, one for the lists and one for the
     /// reduced lists.
     pub fn new(seed: u64, target: T, other: T) -> Comparison<T> {
-        let (lent, at_once) = (Lent::new(target), Lent::new(other));
-        Comparison { lists: Lists::new(seed), lent, at_once, calls: 0, runs: 0, images: 0, reduced: 0 }
+        Comparison {
+            lists: Lists::new(seed),
+            lent: Lent::new(target),
+            at_once: Lent::new(other),
+            calls: 0,
+            runs: 0,
+            images: 0,
+            reduced: 0,
+            left_open: 0,
+        }
     }
 
     /// The target, with its state buffer.
@@ -97,7 +124,8 @@ impl<T: Target> Comparison<T> {
 
     /// Runs one list, and what it reduces to.
     fn run_list(&mut self) -> Result<(), Failure> {
-        let (image, mut hub) = self.lists.start();
+        let (image, mut hub) =
+            if self.runs % OPEN_ENDS == 1 { self.lists.start_open() } else { self.lists.start() };
         let mut list = Vec::new();
         let mut result = self.begin(&image);
         while result.is_ok() {
@@ -121,15 +149,15 @@ impl<T: Target> Comparison<T> {
         self.lent.fill_state([0x00, 0xFF, 0x5A][self.runs % 3]);
         self.at_once.fill_state(0xFF);
         for lent in [&mut self.lent, &mut self.at_once] {
-            match lent.load(image)? {
-                answer::DONE => {}
-                other => return Err(format!("the image to start from is answered {other}")),
+            if !image_agrees(lent, &mut Hub::new(), image)? {
+                return Err("the image to start from is not taken".into());
             }
         }
         Ok(())
     }
 
-    /// Compares images, and the reduced list with both at-once hubs.
+    /// Compares images, and the reduced list with both at-once hubs: what they give, and their states with that of the list, whose open
+    /// commands are cleared.
     fn finish(&mut self, image: &[u8], hub: &Hub, list: &[Traced]) -> Result<(), Difference> {
         images_agree(&mut self.lent, &hub.save(IMAGE_ROOM))?;
         let mut plain = AtOnceHub::new();
@@ -143,28 +171,18 @@ impl<T: Target> Comparison<T> {
             same(&format!("reduced, reported at once: {:?}", expected.call), &expected_reply, &found)?;
         }
         images_agree(&mut self.lent, &plain.call(&Call::Save { room: IMAGE_ROOM }))?;
-        let closed = (0..CONTROLLERS as u64).all(|index| hub.open(index).is_none());
-        if closed && self.lent.state() != self.at_once.state() {
-            return Err("the state differs from that of the reduced list".into());
-        }
-        Ok(())
+        self.left_open += (0..CONTROLLERS as u64).filter(|index| hub.open(*index).is_some()).count();
+        let expected = encode_at_once(plain.state());
+        same_state("the state of the reduced list, reported at once", &expected, self.at_once.state())?;
+        same_state("the state, open commands cleared", &expected, &cleared(self.lent.state()))
     }
 
     /// Loads an image on both and compares what it makes.
     fn compare_image(&mut self, image: &[u8]) -> Result<(), Difference> {
         self.images += 1;
         let mut hub = Hub::new();
-        let expected = hub.load(image).answer;
-        let found = self.lent.load(image)?;
-        if expected != found {
-            return Err(format!("load answers {found}, expected {expected}"));
-        }
-        if found == answer::DONE {
+        if image_agrees(&mut self.lent, &mut hub, image)? {
             images_agree(&mut self.lent, &hub.save(IMAGE_ROOM))?;
-            self.at_once.load(image)?;
-            if self.lent.state() != self.at_once.state() {
-                return Err("one image gives two states".into());
-            }
         }
         Ok(())
     }

@@ -1,7 +1,7 @@
 //! Shorter lists that show the same kind of difference.
 
 use crate::lent::{Difference, Lent};
-use crate::run::{images_agree, step, Failure};
+use crate::run::{image_agrees, images_agree, step, Failure};
 use crate::target::Target;
 use reference::codes::IMAGE_ROOM;
 use reference::{Call, Hub};
@@ -9,11 +9,8 @@ use reference::{Call, Hub};
 /// Runs a list of fixed calls on both and gives the first difference.
 pub fn replay<T: Target>(lent: &mut Lent<T>, image: &[u8], calls: &[Call]) -> Option<Difference> {
     let mut hub = Hub::new();
-    let expected = hub.load(image).answer;
-    match lent.load(image) {
-        Ok(found) if found == expected => {}
-        Ok(found) => return Some(format!("load answers {found}, expected {expected}")),
-        Err(difference) => return Some(difference),
+    if let Err(difference) = image_agrees(lent, &mut hub, image) {
+        return Some(difference);
     }
     for call in calls {
         if let Err(difference) = step(lent, &mut hub, call) {

@@ -1,0 +1,133 @@
+//! The octets of the lent state, written from docs/STATE-LAYOUT.md: what a C host finds in its buffer after each call.
+
+use crate::lent::Difference;
+use reference::codes::CONTROLLERS;
+use reference::command::Command;
+use reference::controller::Controller;
+use reference::records::Record;
+use reference::state::State;
+use reference::table::Table;
+use reference::Hub;
+
+/// The octets of a state.
+pub const STATE: usize = 16_116;
+/// Where the first controller's block begins, behind the clock.
+const BLOCKS: usize = 4;
+/// The octets of a block.
+const BLOCK: usize = 4_028;
+/// Where the open command stands in a block, and how many octets it has: its code and up to three parameters.
+const OPEN: usize = 1;
+/// The octets of an open command.
+const OPEN_OCTETS: usize = 5;
+
+/// The state of a hub, its open commands included.
+pub fn encode(hub: &Hub) -> Vec<u8> {
+    let mut out = encode_at_once(hub.state());
+    for index in 0..CONTROLLERS {
+        if let Some(command) = hub.open(index as u64) {
+            let at = BLOCKS + BLOCK * index + OPEN;
+            out[at..at + OPEN_OCTETS].copy_from_slice(&open(command));
+        }
+    }
+    out
+}
+
+/// The state of a hub where nothing is under way.
+pub fn encode_at_once(state: &State) -> Vec<u8> {
+    let mut out = vec![0; STATE];
+    put(&mut out, 0, &state.clock.to_le_bytes());
+    for (index, controller) in state.controllers.iter().enumerate() {
+        if let Some(controller) = controller {
+            let at = BLOCKS + BLOCK * index;
+            fill(&mut out[at..at + BLOCK], controller);
+        }
+    }
+    out
+}
+
+/// A state with its open commands cleared.
+pub fn cleared(state: &[u8]) -> Vec<u8> {
+    let mut out = state.to_vec();
+    for index in 0..CONTROLLERS {
+        let at = BLOCKS + BLOCK * index + OPEN;
+        out[at..at + OPEN_OCTETS].fill(0);
+    }
+    out
+}
+
+/// An error that tells the first octet in which two states differ, if they do.
+pub fn same_state(what: &str, expected: &[u8], found: &[u8]) -> Result<(), Difference> {
+    if expected == found {
+        return Ok(());
+    }
+    let place =
+        expected.iter().zip(found).position(|(a, b)| a != b).unwrap_or(expected.len().min(found.len()));
+    let (block, octet) = match place.checked_sub(BLOCKS) {
+        Some(behind) => (format!("block {}", behind / BLOCK), behind % BLOCK),
+        None => ("the clock".to_string(), place),
+    };
+    let one = |state: &[u8]| state.get(place).map_or("none".into(), |octet| format!("{octet:02X}"));
+    let (expected, found) = (one(expected), one(found));
+    Err(format!("{what}: octet {octet} of {block} is {found}, expected {expected}"))
+}
+
+/// Writes octets at a place.
+fn put(out: &mut [u8], at: usize, octets: &[u8]) {
+    out[at..at + octets.len()].copy_from_slice(octets);
+}
+
+/// Code and parameters of a command that waits; the octets that it has not are zero.
+fn open(command: &Command) -> [u8; OPEN_OCTETS] {
+    let [low, high] = command.code().to_le_bytes();
+    let [first, second, third] = match command {
+        Command::SetPowered(value) | Command::SetConnectable(value) | Command::SetLowEnergy(value) => {
+            [*value, 0, 0]
+        }
+        Command::SetDiscoverable { mode, timeout } => {
+            let [seconds, more] = timeout.to_le_bytes();
+            [*mode, seconds, more]
+        }
+        other => panic!("{other:?} is never under way"),
+    };
+    [low, high, first, second, third]
+}
+
+/// The block of a present controller; its octets are zero before.
+fn fill(block: &mut [u8], controller: &Controller) {
+    let hardware = &controller.hardware;
+    block[0] = 1;
+    block[6] = hardware.version;
+    put(block, 7, &hardware.manufacturer.to_le_bytes());
+    put(block, 9, &hardware.supported.to_le_bytes());
+    put(block, 13, &hardware.public_address);
+    block[19] = controller.powered.into();
+    block[20] = controller.connectable.into();
+    block[21] = controller.discoverable.into();
+    block[22] = controller.bondable.into();
+    block[23] = controller.low_energy.into();
+    put(block, 24, &controller.timer.unwrap_or(0).to_le_bytes());
+    put(block, 26, &controller.static_address);
+    put(block, 32, &controller.local_name.name);
+    put(block, 281, &controller.local_name.short_name);
+    table(&mut block[292..840], &controller.services);
+    table(&mut block[840..1644], &controller.link_keys);
+    table(&mut block[1644..2800], &controller.long_term_keys);
+    table(&mut block[2800..3540], &controller.identity_keys);
+    table(&mut block[3540..3768], &controller.blocked);
+    table(&mut block[3768..4028], &controller.devices);
+}
+
+/// A table: the word of its slots in use, then the slots.
+fn table<R: Record>(out: &mut [u8], table: &Table<R>) {
+    let mut word = 0_u32;
+    let mut record = Vec::with_capacity(R::LEN);
+    for (place, slot) in table.slots().iter().enumerate() {
+        if let Some(entry) = slot {
+            word |= 1 << place;
+            record.clear();
+            entry.write(&mut record);
+            put(out, 4 + R::LEN * place, &record);
+        }
+    }
+    put(out, 0, &word.to_le_bytes());
+}
