@@ -29,12 +29,34 @@ static void print_octets(const char *what, const uint8_t *octets, size_t count)
     printf(count > 32 ? " .. (%zu octets)\n" : "\n", count);
 }
 
-/* Says what came of a call, and gives its answer back. */
+/* The name of a reply or an event. */
+static const char *frame_name(unsigned code)
+{
+    static const struct {
+        unsigned code;
+        const char *name;
+    } names[] = {
+        { 0x01, "Command Complete" }, { 0x02, "Command Status" },  { 0x04, "Index Added" },  { 0x05, "Index Removed" },
+        { 0x06, "New Settings" },     { 0x07, "Class Changed" },   { 0x08, "Name Changed" }, { 0x14, "Device Blocked" },
+        { 0x15, "Device Unblocked" }, { 0x16, "Device Unpaired" }, { 0x1A, "Device Added" }, { 0x1B, "Device Removed" },
+    };
+    for (size_t i = 0; i < sizeof names / sizeof names[0]; i++)
+        if (names[i].code == code)
+            return names[i].name;
+    return "?";
+}
+
+/* Says what came of a call, packet by packet, and gives its answer back. */
 static unsigned said(const char *what, uint64_t result)
 {
+    char head[64];
+    struct hub_frame frame;
+    size_t place = 0;
     printf("%s: %s\n", what, answer_name(hub_answer(result)));
-    if (hub_count(result) > 0)
-        print_octets("wrote", reply, hub_count(result));
+    while (hub_next_frame(reply, hub_count(result), &place, &frame)) {
+        snprintf(head, sizeof head, "index 0x%04X, %s", (unsigned)frame.index, frame_name(frame.code));
+        print_octets(head, frame.params, frame.length);
+    }
     return hub_answer(result);
 }
 
@@ -112,7 +134,8 @@ static int save(const char *path)
     char fresh[4096];
     uint64_t result = hub_save(state, sizeof state, reply, sizeof reply);
     FILE *file;
-    said("Save", result);
+    printf("Save: %s\n", answer_name(hub_answer(result)));
+    print_octets("image", reply, hub_count(result));
     if (hub_answer(result) != HUB_DONE || !path)
         return hub_answer(result) == HUB_DONE;
     if (snprintf(fresh, sizeof fresh, "%s.new", path) >= (int)sizeof fresh)

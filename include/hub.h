@@ -5,10 +5,21 @@
  * octets written to the reply; take it apart with hub_answer and hub_count. Octets of the reply past the count stay as they were.
  *
  * What the caller owes:
- *   - the state buffer is handed on from call to call as the last call left it, and nobody else writes it; start it with hub_load;
+ *   - each length is the true length of its buffer;
+ *   - a pointer is null only where its length is 0; it is then never used;
  *   - the buffers lent to one call do not overlap;
- *   - no pointer is null, also where the length is 0.
- * Whatever else is passed is answered by a number, never by undefined behaviour: any octets in any buffer, any lengths, any index and status.
+ *   - the state buffer is handed on from call to call as the last call left it, and nobody else writes it; start it with hub_load;
+ *   - one call at a time on a state: none from a second thread or from an interrupt while another call on the same state runs.
+ * Whatever else is passed is answered by a number, never by undefined behaviour: any octets in any buffer, buffers of any length, any index and
+ * status. No buffer needs an alignment. The library keeps nothing between calls, so calls on different states may run at the same time.
+ *
+ * After HUB_BAD_STATE the state buffer is not what a call left: something else wrote it, or nothing was ever loaded. The call has done nothing, and
+ * every call but hub_load will answer the same. Load the last image that was saved, or the empty one. What an image does not hold is lost: power,
+ * discoverable, timers, the clock, commands under way. Reports for those are answered 6, so the host tells their clients itself.
+ *
+ * After HUB_STARTED the command waits, without a limit of time, for hub_report or hub_unplug of its index; until then Set Powered, Set Discoverable,
+ * Set Connectable, Set Low Energy and Set Static Address to that index are refused Busy. A host whose radio driver gives up has to report a failure,
+ * any status from 0x01 to 0x14; 0x03 is Failed, 0x08 Timeout.
  *
  * Opcodes, event codes and status codes are those of BlueZ's mgmt.h; this header defines none of its names.
  */
@@ -55,6 +66,36 @@ static inline size_t hub_count(uint64_t result)
 static inline uint32_t hub_extra(uint64_t result)
 {
     return (uint32_t)(result >> 32);
+}
+
+/* One packet of a reply: Command Complete (code 1), Command Status (code 2), or an event. */
+struct hub_frame {
+    uint16_t code;
+    uint16_t index;        /* the controller, or 0xFFFF */
+    const uint8_t *params; /* its parameters, where they stand in the reply */
+    size_t length;         /* how many octets they have */
+};
+
+/*
+ * Tells the packets of a reply apart: the one that begins at *position, which is moved behind it. Start at 0 and go on while it returns 1; it returns
+ * 0 at the end and where the octets up to count are no whole packet, with *position as it was, so that *position == count says that all was read.
+ * No octet past the count is looked at. (What hub_save writes is an image, not packets.)
+ */
+static inline int hub_next_frame(const uint8_t *reply, size_t count, size_t *position, struct hub_frame *frame)
+{
+    const size_t at = *position, header = 6;
+    size_t length;
+    if (at > count || count - at < header)
+        return 0;
+    length = (size_t)reply[at + 4] | (size_t)reply[at + 5] << 8;
+    if (count - at - header < length)
+        return 0;
+    frame->code = (uint16_t)(reply[at] | reply[at + 1] << 8);
+    frame->index = (uint16_t)(reply[at + 2] | reply[at + 3] << 8);
+    frame->params = reply + at + header;
+    frame->length = length;
+    *position = at + header + length;
+    return 1;
 }
 
 /*
