@@ -196,7 +196,7 @@ static void plug_all(uint8_t *state)
 }
 
 /* The busy hub: at 0 and 1 full tables, a discoverable timer or a command for one; at 2 holes and the power asked for; at 3 a static address. */
-static void make_busy(uint8_t *state)
+static inline void make_busy(uint8_t *state)
 {
     struct packet packet;
     plug_all(state);

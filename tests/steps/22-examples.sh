@@ -2,7 +2,9 @@
 # the examples from the bench, long replies included, on the library and on the independent hub
 set -euo pipefail
 cd "$(dirname "$0")/.."
-[ -n "${HUB_BUILT:-}" ] || rt staticlib hub > /dev/null
+. steps/tools.sh
+need cargo gcc
+library
 export HUB_LIB_DIR="$PWD/../target/staticlib" CARGO_TARGET_DIR="$PWD/../target/tests"
 cargo run --release --offline --quiet -p compare --bin play -- examples/*.txt
 
@@ -19,5 +21,5 @@ mkdir -p "$out"
     echo 'return 0; }'
 } > "$out/readme.c"
 gcc -std=c11 -O2 -Wall -Wextra -Werror -Iinclude "$out/readme.c" target/staticlib/libhub.a -o "$out/readme"
-diff <("$out/readme") <(echo "0 23")
+diff <("$out/readme") <(printf '%s\n' "code 1, index 0, 7 octets" "code 6, index 0, 4 octets" "0 23")
 echo "the README's example compiles, and powers its controller"

@@ -1,0 +1,199 @@
+/*
+ * What the header says of the buffers that are lent: a pointer may be null where its length is 0, no octet outside a buffer is looked at, and no buffer
+ * needs an alignment. Buffers lie in pages of their own with nothing before and behind, so that a look outside ends the program; the calls of
+ * memcpy and memset in the library come by here first (--wrap), and must have no null pointer even for no octets.
+ */
+#define _GNU_SOURCE
+#include <sys/mman.h>
+
+#include "busy.h"
+
+enum { PAGE = 4096, ROOM = 8 * PAGE, BUFFERS = 4 };
+
+static uint8_t *pages[BUFFERS]; /* of each the first and the last page may not be touched */
+static uint8_t base[HUB_STATE_LEN], image[HUB_IMAGE_MAX];
+static size_t image_length;
+static unsigned long tried, failures, copies;
+
+void *__real_memcpy(void *to, const void *from, size_t count);
+void *__real_memset(void *to, int octet, size_t count);
+void *__wrap_memcpy(void *to, const void *from, size_t count);
+void *__wrap_memset(void *to, int octet, size_t count);
+
+static void expect(const char *what, size_t with, int right)
+{
+    tried++;
+    if (right)
+        return;
+    failures++;
+    printf("lending: %s (%zu)\n", what, with);
+}
+
+void *__wrap_memcpy(void *to, const void *from, size_t count)
+{
+    copies++;
+    if (!to || !from)
+        expect("memcpy of a null pointer", count, 0);
+    return count > 0 ? __real_memcpy(to, from, count) : to;
+}
+
+void *__wrap_memset(void *to, int octet, size_t count)
+{
+    copies++;
+    if (!to)
+        expect("memset of a null pointer", count, 0);
+    return count > 0 ? __real_memset(to, octet, count) : to;
+}
+
+/* So many octets of a buffer's pages: right before the page behind, or right behind the page before. */
+static uint8_t *place(int buffer, size_t length, int at_end)
+{
+    return at_end ? pages[buffer] + ROOM - PAGE - length : pages[buffer] + PAGE;
+}
+
+/* One of seven calls. The octets are those of a packet, an address or an image. */
+static uint64_t call(int which, uint8_t *state, size_t state_len, const uint8_t *octets, size_t octets_len, uint8_t *reply, size_t reply_len)
+{
+    switch (which) {
+    case 0: return hub_command(state, state_len, octets, octets_len, reply, reply_len);
+    case 1: return hub_report(state, state_len, 2, 0, reply, reply_len);
+    case 2: return hub_clock(state, state_len, 1300, reply, reply_len);
+    case 3: return hub_unplug(state, state_len, 1, reply, reply_len);
+    case 4: return hub_plug(state, state_len, 1, octets, octets_len, 9, 15, 0x0281, reply, reply_len);
+    case 5: return hub_save(state, state_len, reply, reply_len);
+    default: return hub_load(state, state_len, octets, octets_len);
+    }
+}
+
+/* What a call answers where some of its buffers have no octets: first of all the state, then the reply, then the rest. */
+static unsigned wanted(int which, int no_state, int no_octets, int no_reply)
+{
+    static const unsigned refusals[] = { HUB_BAD_PACKET, HUB_DONE, HUB_DONE, HUB_DONE, HUB_BAD_ARGUMENT, HUB_DONE, HUB_BAD_IMAGE };
+    if (no_state)
+        return HUB_BAD_STATE;
+    if (no_reply && which != 6)
+        return HUB_SMALL_BUFFER;
+    return no_octets ? refusals[which] : HUB_DONE;
+}
+
+/* Every call with every choice of buffers that have no octets; their pointers are null, or the first octet that may not be touched. */
+static void no_octets(int null)
+{
+    static const uint8_t version[] = { 1, 0, 0xFF, 0xFF, 0, 0 }, address[] = { 1, 2, 3, 4, 5, 6 };
+    static uint8_t state[HUB_STATE_LEN], reply[HUB_IMAGE_MAX];
+    uint8_t *none = null ? NULL : place(0, 0, 1);
+    for (int which = 0; which < 7; which++)
+        for (int mask = 0; mask < 8; mask++) {
+            const uint8_t *octets = which == 0 ? version : which == 4 ? address : image;
+            size_t length = which == 6 ? image_length : 6;
+            uint64_t result;
+            memcpy(state, base, sizeof state);
+            if (which == 4)
+                must("unplug", hub_unplug(state, sizeof state, 1, reply, sizeof reply), HUB_DONE);
+            result = call(which, mask & 1 ? none : state, mask & 1 ? 0 : sizeof state, mask & 2 ? none : octets, mask & 2 ? 0 : length,
+                          mask & 4 ? none : reply, mask & 4 ? 0 : sizeof reply);
+            expect(null ? "null" : "no octets", (size_t)(10 * which + mask), hub_answer(result) == wanted(which, mask & 1, mask >> 1 & 1, mask >> 2 & 1));
+        }
+}
+
+/* Packets of many kinds: lists, names, settings, and one that removes every device. */
+static void packet_of(struct packet *packet, unsigned k)
+{
+    switch (k) {
+    case 0: long_term_keys(packet, 3, 32); break;
+    case 1: link_keys(packet, 0, 31); break;
+    case 2: identity_keys(packet, 1, 32); break;
+    case 3: local_name(packet, 2, 'n'); break;
+    case 4: make_packet(packet, 0x0034, 0, 7); break;
+    case 5: add_uuid(packet, 2, 30); break;
+    case 6: make_packet(packet, 0x0004, 1, 0); break;
+    case 7: name_device(packet, 0x001B, 3, 1, 8, 1); break;
+    case 8: make_packet(packet, 0x0009, 3, 1); break;
+    case 9: make_packet(packet, 0x0005, 3, 1); break;
+    default: make_packet(packet, 0x0002, 0xFFFF, 0); break;
+    }
+}
+
+enum { PACKETS = 11, CALLS = PACKETS + 6 };
+
+/* Call k of a shift; what is lent ends at the places that are given for it. */
+static uint64_t one(unsigned k, uint8_t *state, uint8_t *octets, uint8_t *reply)
+{
+    struct packet packet;
+    if (k < PACKETS) {
+        packet_of(&packet, k);
+        memcpy(octets - packet.length, packet.octets, packet.length);
+        return call(0, state, HUB_STATE_LEN, octets - packet.length, packet.length, reply - HUB_REPLY_MIN, HUB_REPLY_MIN);
+    }
+    if (k == CALLS - 1) {
+        memcpy(octets - image_length, image, image_length);
+        return call(6, state, HUB_STATE_LEN, octets - image_length, image_length, NULL, 0);
+    }
+    if (k == CALLS - 2)
+        return call(5, state, HUB_STATE_LEN, NULL, 0, reply - HUB_IMAGE_MAX, HUB_IMAGE_MAX);
+    memcpy(octets - 6, "\1\2\3\4\5\6", 6);
+    return call((int)(k - PACKETS) + 1, state, HUB_STATE_LEN, octets - 6, 6, reply - HUB_REPLY_MIN, HUB_REPLY_MIN);
+}
+
+/* A shift with its buffers so many octets before the end of their pages: a sum over all that is answered and written. */
+static uint64_t shift(size_t a, size_t b, size_t c)
+{
+    uint8_t *state = place(0, HUB_STATE_LEN + a, 1), *octets = place(1, b, 1), *reply = place(2, c, 1);
+    uint64_t sum = 0;
+    memcpy(state, base, HUB_STATE_LEN);
+    for (unsigned k = 0; k < CALLS; k++) {
+        uint64_t result = one(k, state, octets, reply);
+        const uint8_t *room = reply - (k == CALLS - 2 ? HUB_IMAGE_MAX : HUB_REPLY_MIN);
+        sum = sum * 31 + result;
+        for (size_t i = 0; i < hub_count(result); i++)
+            sum = sum * 31 + room[i];
+        for (size_t i = 0; i < HUB_STATE_LEN; i++)
+            sum = sum * 31 + state[i];
+    }
+    return sum;
+}
+
+/* The same comes of it at every alignment of the three. */
+static void alignments(void)
+{
+    uint64_t first = shift(0, 0, 0);
+    for (size_t k = 1; k < 16; k++) {
+        expect("state moved", k, shift(k, 0, 0) == first);
+        expect("packet moved", k, shift(0, k, 0) == first);
+        expect("reply moved", k, shift(0, 0, k) == first);
+        expect("all moved", k, shift(k, 16 - k, k * 7 % 16) == first);
+    }
+}
+
+/* Buffers right behind a page that may not be touched. */
+static void at_start(void)
+{
+    uint8_t *state = place(3, HUB_STATE_LEN, 0), *reply = place(2, 0, 0), *octets = place(1, 0, 0);
+    struct packet packet;
+    for (unsigned k = 0; k < PACKETS; k++) {
+        packet_of(&packet, k);
+        memcpy(state, base, HUB_STATE_LEN);
+        memcpy(octets, packet.octets, packet.length);
+        expect("at the start", k, hub_answer(call(0, state, HUB_STATE_LEN, octets, packet.length, reply, HUB_REPLY_MIN)) <= HUB_REFUSED);
+    }
+    memcpy(octets, image, image_length);
+    expect("load at the start", 0, hub_answer(call(6, state, HUB_STATE_LEN, octets, image_length, NULL, 0)) == HUB_DONE);
+    expect("save at the start", 0, hub_answer(call(5, state, HUB_STATE_LEN, NULL, 0, reply, HUB_IMAGE_MAX)) == HUB_DONE);
+}
+
+int main(void)
+{
+    for (int i = 0; i < BUFFERS; i++) {
+        pages[i] = (uint8_t *)mmap(NULL, ROOM, PROT_READ | PROT_WRITE, MAP_PRIVATE | MAP_ANONYMOUS, -1, 0);
+        if (pages[i] == MAP_FAILED || mprotect(pages[i], PAGE, PROT_NONE) != 0 || mprotect(pages[i] + ROOM - PAGE, PAGE, PROT_NONE) != 0)
+            return EXIT_FAILURE;
+    }
+    make_busy(base);
+    image_length = hub_count(hub_save(base, sizeof base, image, sizeof image));
+    no_octets(1);
+    no_octets(0);
+    alignments();
+    at_start();
+    printf("lending: %lu checks, %lu calls of memcpy and memset, %lu failures\n", tried, copies, failures);
+    return failures != 0 || copies == 0;
+}

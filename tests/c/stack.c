@@ -1,0 +1,118 @@
+/*
+ * The stack that calls really take: each is made on a stack of its own that was filled with a pattern, and the deepest octet that changed is looked for.
+ * Prints a line 'NAME OCTETS' for each entry, the return address included: never more than stack.awk finds in the machine code.
+ */
+#include "busy.h"
+
+enum { DEEP = 1 << 16, PATTERN = 0xA5, ON_STACK = 4 };
+
+typedef void (*entry)(void); /* any of them */
+
+static _Alignas(16) uint8_t stack[DEEP + 8 * ON_STACK];
+static uint8_t base[HUB_STATE_LEN], state[HUB_STATE_LEN], reply[HUB_IMAGE_MAX], image[HUB_IMAGE_MAX];
+
+/* A pointer or a number as an argument. */
+#define ARG(x) ((uint64_t)(uintptr_t)(x))
+
+/* Calls with six arguments in registers and four on the other stack. */
+static uint64_t call_there(entry function, const uint64_t *args)
+{
+    uint64_t *top = (uint64_t *)(void *)(stack + DEEP);
+    uint64_t first = args[0], second = args[1], third = args[2], fourth = args[3], result = ARG(function);
+    register uint64_t fifth __asm__("r8") = args[4];
+    register uint64_t sixth __asm__("r9") = args[5];
+    memcpy(top, args + 6, 8 * ON_STACK);
+    __asm__ volatile("movq %%rsp, %%rbx\n\tmovq %[top], %%rsp\n\tcall *%%rax\n\tmovq %%rbx, %%rsp"
+                     : "+a"(result), "+D"(first), "+S"(second), "+d"(third), "+c"(fourth), "+r"(fifth), "+r"(sixth)
+                     : [top] "r"(top)
+                     : "rbx", "r10", "r11", "memory", "cc", "xmm0", "xmm1", "xmm2", "xmm3", "xmm4", "xmm5", "xmm6", "xmm7", "xmm8", "xmm9", "xmm10",
+                       "xmm11", "xmm12", "xmm13", "xmm14", "xmm15");
+    return result;
+}
+
+/* The octets that a call takes on the busy hub; it must be answered so. The first time does not count: memcpy is looked up then. */
+static unsigned takes(entry function, uint64_t *args, unsigned wanted)
+{
+    unsigned deepest = 0;
+    memset(stack, PATTERN, DEEP);
+    memcpy(state, base, HUB_STATE_LEN);
+    must("a call on the other stack", call_there(function, args), wanted);
+    memset(stack, PATTERN, DEEP);
+    memcpy(state, base, HUB_STATE_LEN);
+    (void)call_there(function, args);
+    while (stack[deepest] == PATTERN)
+        deepest++;
+    return DEEP - deepest;
+}
+
+static unsigned most(unsigned a, unsigned b)
+{
+    return a > b ? a : b;
+}
+
+/* One command on the busy hub. */
+static unsigned command_takes(const struct packet *packet, unsigned wanted)
+{
+    uint64_t args[10] = { ARG(state), HUB_STATE_LEN, ARG(packet->octets), packet->length, ARG(reply), HUB_REPLY_MIN };
+    return takes((entry)hub_command, args, wanted);
+}
+
+/* The commands that go deepest: lists, removals, names, settings at once and started. */
+static unsigned commands(void)
+{
+    struct packet packet;
+    unsigned worst;
+    long_term_keys(&packet, 3, 32);
+    worst = command_takes(&packet, HUB_DONE);
+    link_keys(&packet, 0, 32);
+    worst = most(worst, command_takes(&packet, HUB_DONE));
+    make_packet(&packet, 0x0034, 0, 7);
+    worst = most(worst, command_takes(&packet, HUB_DONE));
+    make_packet(&packet, 0x0011, 0, 16);
+    worst = most(worst, command_takes(&packet, HUB_DONE));
+    name_device(&packet, 0x001B, 0, 0, 8, 1);
+    worst = most(worst, command_takes(&packet, HUB_DONE));
+    local_name(&packet, 2, 'q');
+    worst = most(worst, command_takes(&packet, HUB_DONE));
+    make_packet(&packet, 0x0004, 0, 0);
+    worst = most(worst, command_takes(&packet, HUB_DONE));
+    make_packet(&packet, 0x0005, 3, 1);
+    worst = most(worst, command_takes(&packet, HUB_STARTED));
+    make_packet(&packet, 0x0009, 0, 1);
+    worst = most(worst, command_takes(&packet, HUB_DONE));
+    *make_packet(&packet, 0x0007, 2, 1) = 1;
+    worst = most(worst, command_takes(&packet, HUB_REFUSED));
+    must("a report", hub_report(base, sizeof base, 2, 3, reply, sizeof reply), HUB_DONE); /* nothing is under way at 2, which has no power */
+    return most(worst, command_takes(&packet, HUB_DONE));
+}
+
+/* Everything else. */
+static void others(void)
+{
+    static const uint8_t address[6] = { 1, 2, 3, 4, 5, 6 };
+    uint64_t report[10] = { ARG(state), HUB_STATE_LEN, 0, 0, ARG(reply), HUB_REPLY_MIN }, worst = 0;
+    uint64_t clock[10] = { ARG(state), HUB_STATE_LEN, 1300, ARG(reply), HUB_REPLY_MIN };
+    uint64_t unplug[10] = { ARG(state), HUB_STATE_LEN, 0, ARG(reply), HUB_REPLY_MIN };
+    uint64_t plug[10] = { ARG(state), HUB_STATE_LEN, 1, ARG(address), 6, 9, 15, 0x0281, ARG(reply), HUB_REPLY_MIN };
+    uint64_t save[10] = { ARG(state), HUB_STATE_LEN, ARG(reply), HUB_IMAGE_MAX };
+    uint64_t load[10] = { ARG(state), HUB_STATE_LEN, ARG(image), 0 };
+    for (report[2] = 0; report[2] < 3; report[2]++)
+        worst = most((unsigned)worst, takes((entry)hub_report, report, HUB_DONE));
+    printf("hub_report %u\n", (unsigned)worst);
+    printf("hub_clock %u\n", takes((entry)hub_clock, clock, HUB_DONE));
+    printf("hub_unplug %u\n", takes((entry)hub_unplug, unplug, HUB_DONE));
+    load[3] = hub_count(hub_save(base, sizeof base, image, sizeof image));
+    printf("hub_save %u\n", takes((entry)hub_save, save, HUB_DONE));
+    printf("hub_load %u\n", takes((entry)hub_load, load, HUB_DONE));
+    must("unplug", hub_unplug(base, sizeof base, 1, reply, sizeof reply), HUB_DONE);
+    printf("hub_plug %u\n", takes((entry)hub_plug, plug, HUB_DONE));
+}
+
+int main(void)
+{
+    make_busy(base);
+    others();
+    make_busy(base);
+    printf("hub_command %u\n", commands());
+    return 0;
+}

@@ -1,0 +1,190 @@
+/*
+ * The longest time that a call takes: on a hub with four controllers and all 768 records, the records of a table alike but for one octet, which is each
+ * octet in turn. A call's time is the least of many tries, an entry's the most over its calls and over the hubs.
+ *
+ *     worst_time [LIMIT]      prints a line 'NAME MICROSECONDS' for each entry; the exit code is 1 if one took more than LIMIT microseconds
+ */
+#define _POSIX_C_SOURCE 199309L
+#include <time.h>
+
+#include "busy.h"
+
+enum { TRIES = 200, OCTETS = 16, ENTRIES = 7, INPUTS = 24 };
+
+/* A call: an entry by its number, a packet for a command, else an index. */
+struct input {
+    int entry;
+    unsigned index;
+    struct packet packet;
+};
+
+static const char *const names[ENTRIES] = { "hub_command", "hub_report", "hub_clock", "hub_plug", "hub_unplug", "hub_save", "hub_load" };
+static const uint8_t address[6] = { 1, 2, 3, 4, 5, 6 };
+static uint8_t full[HUB_STATE_LEN], state[HUB_STATE_LEN], image[HUB_IMAGE_MAX], reply[HUB_IMAGE_MAX];
+static struct input inputs[INPUTS];
+static unsigned made;
+
+/* Record k of a table of the six: valid, and unlike the others in one octet only. */
+static void put_record(uint8_t *to, int table, unsigned k, unsigned octet)
+{
+    static const size_t sizes[6] = { 17, 25, 36, 23, 7, 8 };
+    memset(to, 0x42, sizes[table]);
+    to[octet % (table == 0 ? 16 : 6)] = (uint8_t)(k + 1);
+    if (table > 0)
+        to[6] = table > 1;
+    if (table == 1 || table == 2)
+        to[7] = 1;
+    if (table == 2) {
+        to[8] = 0;
+        to[9] = 16;
+    }
+    if (table == 5)
+        to[7] = 1;
+}
+
+/* The image of a controller, behind its index: what plug gave, flags, static address, names, and all tables full. */
+static uint8_t *put_controller(uint8_t *to, unsigned octet)
+{
+    static const uint8_t fixed[23] = { 1, 2, 3, 4, 5, 6, 9, 0, 15, 0, 0, 0x02, 0x81, 0, 0, 0x02, 0x12, 1, 2, 3, 4, 5, 0xC6 };
+    static const size_t sizes[6] = { 17, 25, 36, 23, 7, 8 };
+    memcpy(to, fixed, sizeof fixed);
+    memset(to + sizeof fixed, 'n', 260);
+    to[sizeof fixed + 248] = to[sizeof fixed + 259] = 0;
+    to += sizeof fixed + 260;
+    for (int table = 0; table < 6; table++) {
+        *to++ = 32;
+        for (unsigned k = 0; k < 32; k++, to += sizes[table])
+            put_record(to, table, k, octet);
+    }
+    return to;
+}
+
+/* The longest image, and the hub made of it with power, discoverable timers, and a command under way at each index. */
+static void make_full(unsigned octet)
+{
+    uint8_t *to = image + 6;
+    for (unsigned index = 0; index < 4; index++) {
+        *to++ = (uint8_t)index;
+        to = put_controller(to, octet);
+    }
+    memcpy(image, "\0\0\0\0\1\4", 6);
+    image[2] = HUB_IMAGE_MAX >> 8;
+    image[3] = HUB_IMAGE_MAX & 0xFF;
+    must("the longest image", hub_load(full, sizeof full, image, sizeof image), HUB_DONE);
+    for (unsigned index = 0; index < 4; index++) {
+        must_set(full, 0x0005, index, 1, 1, 0, HUB_STARTED, 1);
+        must_set(full, 0x0006, index, 3, 1, 300, HUB_STARTED, 1);
+        must_set(full, 0x0007, index, 1, 0, 0, HUB_STARTED, 0);
+    }
+}
+
+static struct input *input(int entry, unsigned index)
+{
+    struct input *next = &inputs[made++];
+    if (made > INPUTS)
+        exit(EXIT_FAILURE);
+    next->entry = entry;
+    next->index = index;
+    return next;
+}
+
+/* A list of 32 records to the last controller. */
+static void list(unsigned code, size_t before, size_t size, int table, unsigned octet)
+{
+    uint8_t *params = make_packet(&input(0, 3)->packet, code, 3, before + 32 * size);
+    params[before - 2] = 32;
+    for (unsigned k = 0; k < 32; k++)
+        put_record(params + before + k * size, table, k, octet);
+}
+
+/* A command that names record k of a table, which is there for k below 32. */
+static void named(unsigned code, size_t length, int table, unsigned k, unsigned octet)
+{
+    uint8_t record[36];
+    put_record(record, table, k, octet);
+    memcpy(make_packet(&input(0, 3)->packet, code, 3, length), record, length);
+}
+
+/* The calls that have most to do. */
+static void make_inputs(unsigned octet)
+{
+    made = 0;
+    list(0x0012, 3, 25, 1, octet);
+    list(0x0013, 2, 36, 2, octet);
+    list(0x0030, 2, 23, 3, octet);
+    named(0x0010, 17, 0, 31, octet);
+    named(0x0010, 17, 0, 32, octet);
+    named(0x0011, 16, 0, 31, octet);
+    make_packet(&input(0, 3)->packet, 0x0011, 3, 16);
+    named(0x001B, 8, 5, 31, octet);
+    named(0x0026, 7, 4, 32, octet);
+    named(0x0027, 7, 4, 31, octet);
+    named(0x0033, 8, 5, 31, octet);
+    named(0x0033, 8, 5, 32, octet);
+    named(0x0034, 7, 5, 31, octet);
+    make_packet(&input(0, 3)->packet, 0x0034, 3, 7);
+    local_name(&input(0, 3)->packet, 3, 'w');
+    make_packet(&input(0, 3)->packet, 0x0004, 3, 0);
+    make_packet(&input(0, 3)->packet, 0x0009, 3, 1);
+    make_packet(&input(0, 3)->packet, 0x0002, 0xFFFF, 0);
+    input(1, 3);
+    for (int entry = 2; entry < ENTRIES; entry++)
+        input(entry, 3);
+}
+
+static uint64_t call(const struct input *in)
+{
+    switch (in->entry) {
+    case 0: return hub_command(state, sizeof state, in->packet.octets, in->packet.length, reply, HUB_REPLY_MIN);
+    case 1: return hub_report(state, sizeof state, in->index, 0, reply, HUB_REPLY_MIN);
+    case 2: return hub_clock(state, sizeof state, 300, reply, HUB_REPLY_MIN);
+    case 3: return hub_plug(state, sizeof state, in->index, address, 6, 9, 15, 0x0281, reply, HUB_REPLY_MIN);
+    case 4: return hub_unplug(state, sizeof state, in->index, reply, HUB_REPLY_MIN);
+    case 5: return hub_save(state, sizeof state, reply, HUB_IMAGE_MAX);
+    default: return hub_load(state, sizeof state, image, sizeof image);
+    }
+}
+
+static double now(void)
+{
+    struct timespec time;
+    clock_gettime(CLOCK_MONOTONIC, &time);
+    return (double)time.tv_sec * 1e6 + (double)time.tv_nsec / 1e3;
+}
+
+/* The least microseconds of many tries, each from the same state; without a call, what looking at the clock takes. */
+static double least(const struct input *in)
+{
+    double best = 1e9;
+    for (int k = 0; k < TRIES; k++) {
+        double start, took;
+        memcpy(state, full, sizeof state);
+        start = now();
+        if (in && hub_answer(call(in)) == HUB_BAD_STATE)
+            exit(EXIT_FAILURE);
+        took = now() - start;
+        best = took < best ? took : best;
+    }
+    return best;
+}
+
+int main(int argc, char **argv)
+{
+    double limit = argc > 1 ? strtod(argv[1], NULL) : 1e9, worst[ENTRIES] = { 0 };
+    int slow = 0;
+    for (unsigned octet = 0; octet < OCTETS; octet++) {
+        double empty = least(NULL);
+        make_full(octet);
+        make_inputs(octet);
+        for (unsigned k = 0; k < made; k++) {
+            double took = least(&inputs[k]) - empty;
+            if (took > worst[inputs[k].entry])
+                worst[inputs[k].entry] = took;
+        }
+    }
+    for (int entry = 0; entry < ENTRIES; entry++) {
+        printf("%s %.1f\n", names[entry], worst[entry]);
+        slow += worst[entry] > limit;
+    }
+    return slow > 0;
+}
