@@ -1,10 +1,12 @@
 #!/usr/bin/env bash
-# the library from C: its header, alone and beside mgmt.h, its constants, a shift under valgrind, a million random calls beside the independent hub
+# the library from C: its header, alone and beside mgmt.h, its constants, a shift under valgrind, more than a million calls beside the independent hub
 set -euo pipefail
 cd "$(dirname "$0")/../.."
+. tests/steps/tools.sh
 export LC_ALL=C
-command -v valgrind > /dev/null || { apt-get update -qq; apt-get install -y -qq valgrind; } > /dev/null
-[ -n "${HUB_BUILT:-}" ] || rt staticlib hub > /dev/null
+get valgrind valgrind
+need gcc g++ nm awk comm cargo valgrind
+library
 lib=target/staticlib/libhub.a
 out=target/tests/c
 mkdir -p "$out"
@@ -15,7 +17,9 @@ gcc -std=c11 $flags -pedantic-errors -fsyntax-only -x c include/hub.h
 g++ -std=c++17 $flags -pedantic-errors -fsyntax-only -x c++ include/hub.h
 printf '#include <stddef.h>\n#include <stdint.h>\n' | gcc -std=c11 -dM -E -x c - | sort > "$out/names.without"
 gcc -std=c11 -dM -E -x c include/hub.h | sort > "$out/names.with"
-diff <(comm -13 "$out/names.without" "$out/names.with" | grep -v '^#define HUB_' || true) /dev/null
+comm -13 "$out/names.without" "$out/names.with" > "$out/names.new"
+grep -q '^#define HUB_STATE_LEN ' "$out/names.new"
+none "$out/names.new" -v '^#define HUB_'
 diff <(nm -g --defined-only "$lib" | awk 'NF == 3 { print $3 }' | sort) \
     <(printf 'hub_%s\n' clock command load plug report save unplug)
 
@@ -36,4 +40,7 @@ valgrind --quiet --error-exitcode=9 "$out/host" "$out/shift.image" "$out/shift.l
 valgrind --quiet --error-exitcode=9 "$out/host" "$out/shift.image" > "$out/second.txt"
 cd tests
 export HUB_LIB_DIR="$PWD/../target/staticlib" CARGO_TARGET_DIR="$PWD/../target/tests"
-cargo run --release --offline --quiet -p compare --bin compare -- "${HUB_CALLS:-1000000}" "${HUB_SEED:-$RANDOM}"
+# The same calls every time, then others: their seed is printed, and HUB_SEED takes it again.
+compare="cargo run --release --offline --quiet -p compare --bin compare --"
+$compare "${HUB_FIXED_CALLS:-300000}" 1
+$compare "${HUB_CALLS:-1000000}" "${HUB_SEED:-$(date +%s%N)}"

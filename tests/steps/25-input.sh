@@ -2,8 +2,10 @@
 # a busy state with each octet changed in turn, and bad input of every length, from C; a part of both under valgrind
 set -euo pipefail
 cd "$(dirname "$0")/../.."
-command -v valgrind > /dev/null || { apt-get update -qq; apt-get install -y -qq valgrind; } > /dev/null
-[ -n "${HUB_BUILT:-}" ] || rt staticlib hub > /dev/null
+. tests/steps/tools.sh
+get valgrind valgrind
+need gcc valgrind
+library
 out=target/tests/c
 mkdir -p "$out"
 for program in one_octet bad_input; do

@@ -2,8 +2,10 @@
 # a shift as a btsnoop file: its records by an independent reader, its words by BlueZ's btmon
 set -euo pipefail
 cd "$(dirname "$0")/../.."
+. tests/steps/tools.sh
 export LC_ALL=C TZ=UTC
-[ -n "${HUB_BUILT:-}" ] || rt staticlib hub > /dev/null
+need gcc awk
+library
 out=target/tests/btsnoop
 mkdir -p "$out"
 flags="-std=c11 -g -O1 -Wall -Wextra -Werror"
@@ -55,13 +57,9 @@ refuses "yesterday\n" "line 1: not a time, a client and a word"
 refuses "1.0 A open" "line 1: too long, or cut short"
 echo "btsnoop: logs of all kinds, as expected"
 
-command -v btmon > /dev/null || {
-    export DEBIAN_FRONTEND=noninteractive
-    timeout 120 apt-get update -qq || true
-    timeout 300 apt-get install -y -qq bluez || true
-} > /dev/null 2>&1 < /dev/null
+get btmon bluez
 if ! command -v btmon > /dev/null; then
-    echo "btmon is not here and could not be installed: its part is left out"
+    skip "the shift in btmon's words: btmon (package bluez) is not here and could not be installed"
     exit 0
 fi
 # Many spaces stand in btmon's lines up to the width of a terminal: one is left of each run, and the time at the end is cut off.
@@ -93,6 +91,6 @@ while read -r line; do says "$line"; done << 'WORDS'
 WORDS
 for words in "Busy (0x0a)" "Failed (0x03)" "Invalid Parameters (0x0d)" "Invalid Index (0x11)" "Success (0x00)"; do says " Status: $words"; done
 # Nothing that btmon could not read.
-diff <(grep -iE '^@ .*: unknown|malformed|invalid packet size|too short packet' "$out/btmon.txt" || true) /dev/null
+none "$out/btmon.txt" -iE '^@ .*: unknown|malformed|invalid packet size|too short packet'
 diff <(grep -c ' command \| event ' "$out/shift.txt") <(grep -c '^@ MGMT Command\|^@ MGMT Event' "$out/btmon.txt")
 echo "btmon: every packet in words"
