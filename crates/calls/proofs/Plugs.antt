@@ -21,8 +21,8 @@ use Rattle.layout.specs.Places.{Ready, emptied, openAt, placeOf, presentAt, put
 use Rattle.layout.specs.Reads.{absent-controller, present-controller}
 use Rattle.layout.specs.Open.{open-nothing, open-command}
 use Rattle.replies.specs.Answers.{Gives}
-use Rattle.replies.specs.declared.Answer.{Answer}
-use Rattle.replies.specs.declared.Answer.the-variants.{Done, BadArgument}
+use Rattle.model.specs.declared.Answer.{Answer}
+use Rattle.model.specs.declared.Answer.the-variants.{Done, BadArgument}
 use Rattle.replies.proofs.Laws.{gives-written, length-event, then}
 use Rattle.outcomes.specs.Outcomes.{ended}
 use Rattle.outcomes.specs.Endings.{ends-silent, ends-done}

@@ -27,8 +27,8 @@ use Rattle.layout.specs.Kept.{controller-decoded, controller-ready, host-fine}
 use Rattle.rules.specs.Effects.{settingsTimer, withSettings}
 use Rattle.rules.proofs.Ties.{tick-only}
 use Rattle.replies.specs.Answers.{Gives}
-use Rattle.replies.specs.declared.Answer.{Answer}
-use Rattle.replies.specs.declared.Answer.the-variants.{Done, BadArgument}
+use Rattle.model.specs.declared.Answer.{Answer}
+use Rattle.model.specs.declared.Answer.the-variants.{Done, BadArgument}
 use Rattle.replies.proofs.Laws.{length-new-settings, then}
 use Rattle.outcomes.specs.Outcomes.{ended}
 use Rattle.outcomes.specs.Endings.{ends-done}

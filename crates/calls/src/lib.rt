@@ -14,8 +14,8 @@ ghost use Rattle.replies.specs.Answers.{Gives};
 ghost use Rattle.outcomes.specs.Outcomes.{ended};
 ghost use Rattle.calls.specs.Given.{hardwareGiven};
 ghost use Rattle.calls.specs.Ticks.{Ticked};
+use model::Answer;
 use model::Hardware;
-use replies::Answer;
 
 // An event that tells an index and nothing else, 6 octets.
 fn index_event(reply: &mut [u8], at: usize, code: u64, index: u64)

@@ -21,8 +21,8 @@ use Rattle.model.specs.Proof.Tests.{no-way, equal, and-true}
 use Rattle.octets.specs.Parts.{writeAt}
 use Rattle.layout.specs.Places.{Ready, presentAt}
 use Rattle.replies.specs.Answers.{Gives}
-use Rattle.replies.specs.declared.Answer.{Answer}
-use Rattle.replies.specs.declared.Answer.the-variants.{Refused}
+use Rattle.model.specs.declared.Answer.{Answer}
+use Rattle.model.specs.declared.Answer.the-variants.{Refused}
 use Rattle.outcomes.specs.Outcomes.{general, served, contended, dispatched, ended}
 use Rattle.outcomes.specs.Endings.{ends-refused}
 use Rattle.outcomes.specs.Routes.{route-unknown, route-general, route-immediate, route-immediate-absent, route-radio, route-radio-absent}

@@ -12,8 +12,8 @@ use Rattle.model.specs.Hub.{command, report, clock, plug, unplug, save, finishe
 use Rattle.model.specs.Layout.{decode}
 use Rattle.model.specs.Meanings.{stateOk, laidOut, meaning}
 use Rattle.replies.specs.Answers.{Gives}
-use Rattle.replies.specs.declared.Answer.{Answer}
-use Rattle.replies.specs.declared.Answer.the-variants.{BadPacket, SmallBuffer}
+use Rattle.model.specs.declared.Answer.{Answer}
+use Rattle.model.specs.declared.Answer.the-variants.{BadPacket, SmallBuffer}
 use Rattle.outcomes.specs.Outcomes.{ended, dispatched, reported}
 use Rattle.outcomes.specs.Endings.{ends-silent}
 use Rattle.outcomes.specs.Routes.{command-small, command-bad, command-whole, report-small, report-whole, clock-small, clock-whole, plug-small, plug-whole, unplug-small, unplug-whole, save-small, save-whole}

@@ -34,8 +34,8 @@ use Rattle.layout.specs.Tables.{table-at}
 use Rattle.outcomes.specs.Outcomes.{ended}
 use Rattle.outcomes.specs.Endings.{ends-done}
 use Rattle.replies.specs.Answers.{Gives}
-use Rattle.replies.specs.declared.Answer.{Answer}
-use Rattle.replies.specs.declared.Answer.the-variants.{Done}
+use Rattle.model.specs.declared.Answer.{Answer}
+use Rattle.model.specs.declared.Answer.the-variants.{Done}
 use Rattle.image.specs.Images.{fixedImage, image-parts, numbersImage}
 use Rattle.replies.proofs.Laws.{then}
 

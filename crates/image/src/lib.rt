@@ -16,8 +16,8 @@ ghost use Rattle.octets.specs.Parts.{writeAt};
 ghost use Rattle.outcomes.specs.Outcomes.{ended};
 ghost use Rattle.replies.specs.Answers.{Gives};
 ghost use Rattle.table.specs.Slots.{tableAt};
+use model::Answer;
 use model::Settings;
-use replies::Answer;
 
 // Writes the image of a table at a place: how many records it has, and the records in slot order. Gives the place behind it.
 pub fn save_records(state: &[u8], at: usize, size: usize, out: &mut [u8], place: usize) -> usize

@@ -25,8 +25,8 @@ use Rattle.layout.specs.Places.{Ready, controllerOf, placeOf, putController, ta
 use Rattle.layout.specs.Reads.{name-at, present-slot}
 use Rattle.layout.specs.Tables.{table-at, table-fits}
 use Rattle.replies.specs.Answers.{Gives}
-use Rattle.replies.specs.declared.Answer.{Answer}
-use Rattle.replies.specs.declared.Answer.the-variants.{Done, Refused}
+use Rattle.model.specs.declared.Answer.{Answer}
+use Rattle.model.specs.declared.Answer.the-variants.{Done, Refused}
 use Rattle.replies.proofs.Laws.{length-complete, then}
 use Rattle.outcomes.specs.Outcomes.{served}
 use Rattle.outcomes.specs.Endings.{served-length, served-done}

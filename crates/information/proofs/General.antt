@@ -21,8 +21,8 @@ use Rattle.octets.specs.Parts.{writeAt, write-split, write-right, write-front}
 use Rattle.layout.specs.Places.{presentAt}
 use Rattle.layout.specs.Reads.{present-slot, absent-slot}
 use Rattle.replies.specs.Answers.{Gives}
-use Rattle.replies.specs.declared.Answer.{Answer}
-use Rattle.replies.specs.declared.Answer.the-variants.{Done, Refused}
+use Rattle.model.specs.declared.Answer.{Answer}
+use Rattle.model.specs.declared.Answer.the-variants.{Done, Refused}
 use Rattle.outcomes.specs.Outcomes.{general}
 use Rattle.outcomes.specs.Endings.{ends-refused, ends-done}
 use Rattle.information.specs.General.{Reply, listed}

@@ -1,5 +1,6 @@
 pub mod Octets
 pub mod State
+pub mod Answers
 pub mod Reasons
 pub mod Tables
 pub mod Rules
@@ -10,6 +11,7 @@ pub mod Hub
 pub mod WellFormed
 pub mod Layout
 pub mod Meanings
+pub mod Written
 pub mod Demand3
 pub mod Examples
 pub mod EasyErrors

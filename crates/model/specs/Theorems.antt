@@ -1,5 +1,6 @@
 -- The theorems, over the octets of the lent state, each by name. The proofs are in Proof/.
-use Prim.Native.Nat.{ℕ, _≤_}
+use Prim.Native.Nat.{ℕ, _^_, _≤_, _<_}
+use native.Mathlib.Omega.{arith}
 use mathlib.Core.Path.{_≡_, refl, sym, ap, _∙_}
 use mathlib.Core.Bool.{true, false}
 use mathlib.Core.List.{[]}
@@ -12,10 +13,11 @@ use Rattle.model.specs.State.{Hub, PlainHub, idle, open-state}
 use Rattle.model.specs.Reasons.{open-reasons}
 use Rattle.model.specs.Tables.{open-tables}
 use Rattle.model.specs.Image.{image, load, open-image, reloadedHub}
-use Rattle.model.specs.Hub.{Call, Outcome, Result, answerOf, call, callPlain, keep, octetsOf, save, stateOf, within}
+use Rattle.model.specs.Hub.{Call, Outcome, Result, answerOf, call, callPlain, clock, command, keep, octetsOf, plug, report, save, stateOf, unplug, within}
 use Rattle.model.specs.WellFormed.{callWide, open-wellformed, plainOk, wellFormed}
 use Rattle.model.specs.Layout.{decode, encode, stateLength}
 use Rattle.model.specs.Meanings.{badState, hubLoad, hubSave, laidOut, loadMeaning, loadedInto, meaning, stateOk}
+use Rattle.model.specs.Written.{OneReply, Written, roomOf}
 use Rattle.model.specs.Demand3.{Demand3}
 use Rattle.model.specs.Examples.{dualHardware, fullController, fullHub, fullTable, records}
 use Rattle.model.specs.Proof.Decode.{decode-encode}
@@ -26,6 +28,7 @@ use Rattle.model.specs.Proof.Room.{notSave, room-state}
 use Rattle.model.specs.Proof.RoundTrip.{image-most, load-image}
 use Rattle.model.specs.Proof.SavedAgain.{saved-again}
 use Rattle.model.specs.Proof.Tests.{and-true, either}
+use Rattle.model.specs.Proof.Written.{load-written, one-reply, silent, state-written, to-seven}
 
 -- DEMAND 3, whole: for any image that load takes into any buffer and any list of calls
 pub demand-3 : Demand3
@@ -125,8 +128,50 @@ one-image-that-long =
     let w = idle-ok fullHub full-valid in
     (encode-ok (idle fullHub) w, ap (λ (x : Result Octets). length (x .octets)) (save-is (idle fullHub) 16014 w refl) ∙ full-length)
 
+-- What is written ----------------------------------------------------------------------------------------------------------------------------
+
+-- Every call writes what its answer lets it write: nothing, one status reply, or its reply and events.
+pub answer-says-what-is-written : (s : Octets) (c : Call) → Written c (meaning s c .answer) (meaning s c .octets)
+answer-says-what-is-written = state-written
+
+-- A call answered 1 or 3 to 7 writes nothing.
+pub silent-answers : (s : Octets) (c : Call) → (meaning s c .answer ≡ 0 → ⊥) → (meaning s c .answer ≡ 2 → ⊥) → meaning s c .octets ≡ []
+silent-answers s c = silent c _ _ (state-written s c)
+
+-- Only a command is answered 2, and it writes exactly one status reply, with the code and index of its packet.
+pub refused-writes-one-reply : (s : Octets) (c : Call) → meaning s c .answer ≡ 2 → OneReply c (meaning s c .octets)
+refused-writes-one-reply s c = one-reply c _ _ (state-written s c)
+
+-- Every answer is one of 0 to 7.
+pub answers-are-eight : (s : Octets) (c : Call) → meaning s c .answer ≤ 7
+answers-are-eight s c = to-seven c _ _ (state-written s c)
+
+-- Load answers one of 0 to 7 and writes nothing but the state.
+pub load-writes-nothing : (buffer image : Octets) → (hubLoad buffer image .answer ≤ 7) × (hubLoad buffer image .octets ≡ [])
+load-writes-nothing = load-written
+
 -- Room ----------------------------------------------------------------------------------------------------------------------------------------
 
--- No call but save writes more than 1,024 octets.
-pub no-reply-longer : (s : Octets) (c : Call) → notSave c ≡ true → length (meaning s c .octets) ≤ 1024
-no-reply-longer = room-state
+-- No call writes more than the reply buffer that it asks for: 1,024 octets, save 16,014.
+pub no-reply-longer : (s : Octets) (c : Call) → length (meaning s c .octets) ≤ roomOf c
+unfolding roomOf notSave hubSave
+no-reply-longer s (command room packet) = room-state s (command room packet) refl
+no-reply-longer s (report room i status) = room-state s (report room i status) refl
+no-reply-longer s (clock room reading) = room-state s (clock room reading) refl
+no-reply-longer s (plug room i f) = room-state s (plug room i f) refl
+no-reply-longer s (unplug room i) = room-state s (unplug room i) refl
+no-reply-longer s (save room) = no-image-longer s room
+
+-- No call asks for more than 16,014 octets.
+pub room-most : (c : Call) → roomOf c ≤ 16014
+unfolding roomOf
+room-most (command room packet) = omega arith
+room-most (report room i status) = omega arith
+room-most (clock room reading) = omega arith
+room-most (plug room i f) = omega arith
+room-most (unplug room i) = omega arith
+room-most (save room) = omega arith
+
+-- The count of octets written fits 24 bits.
+pub count-fits : (s : Octets) (c : Call) → length (meaning s c .octets) < 2 ^ 24
+count-fits s c = omega (arith, no-reply-longer s c, room-most c)

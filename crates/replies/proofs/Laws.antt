@@ -13,8 +13,9 @@ use Rattle.model.specs.Octets.{Octets, le16, le32, event, commandComplete, comm
 use Rattle.model.specs.Hub.{Result}
 use Rattle.octets.specs.Parts.{writeAt, write-split, write-front}
 use Rattle.replies.specs.Frames.{eventHead, completeHead, changedEvent, settingsReply}
-use Rattle.replies.specs.Answers.{numberOf, countOf, Gives}
-use Rattle.replies.specs.declared.Answer.{Answer}
+use Rattle.model.specs.Answers.{numberOf, countOf}
+use Rattle.replies.specs.Answers.{Gives}
+use Rattle.model.specs.declared.Answer.{Answer}
 use Rattle.model.specs.Proof.Room.{length-le16, length-le32}
 
 -- LENGTHS -------------------------------------------------------------------------------------------------------------------------------------

@@ -6,20 +6,9 @@ ghost use Rattle.model.specs.Octets.{le32, commandComplete, commandStatus};
 ghost use Rattle.model.specs.Octets as M;
 ghost use Rattle.octets.specs.Parts.{part, writeAt};
 ghost use Rattle.replies.specs.Frames as S;
-ghost use Rattle.replies.specs.Answers.{numberOf, countOf};
-ghost use Rattle.replies.specs.declared.Answer.the-variants.{Refused};
-
-// What a call answers; a count is that of the octets written.
-pub enum Answer {
-    Done(usize),
-    Started,
-    Refused(usize),
-    BadPacket,
-    SmallBuffer,
-    BadState,
-    BadArgument,
-    BadImage,
-}
+ghost use Rattle.model.specs.Answers.{numberOf, countOf};
+ghost use Rattle.model.specs.declared.Answer.the-variants.{Refused};
+use model::Answer;
 
 // The number of an answer.
 pub fn number(a: Answer) -> u64

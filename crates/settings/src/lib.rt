@@ -13,14 +13,14 @@ ghost use Rattle.octets.specs.Parts.{writeAt};
 ghost use Rattle.layout.specs.Places.{Ready, controllerOf, placeOf, putController};
 ghost use Rattle.replies.specs.Answers.{Gives};
 ghost use Rattle.replies.specs.Frames.{settingsReply};
-ghost use Rattle.replies.specs.declared.Answer.the-variants.{Done};
+ghost use Rattle.model.specs.declared.Answer.the-variants.{Done};
 ghost use Rattle.rules.specs.declared.Decision.the-variants.{Wait};
 ghost use Rattle.rules.specs.Effects.{withSettings};
 ghost use Rattle.outcomes.specs.Outcomes.{contended, reported, served};
 ghost use Rattle.settings.specs.Follows.{Concludes, Contends};
 ghost use Rattle.settings.specs.Opens.{Makes};
+use model::Answer;
 use model::Settings;
-use replies::Answer;
 use rules::Decision;
 
 // The ways to end
