@@ -9,7 +9,7 @@ use Rattle.model.specs.Hub.{Result}
 use Rattle.replies.specs.declared.Answer.{Answer}
 use Rattle.replies.specs.declared.Answer.the-variants.{Done, Started, Refused, BadPacket, SmallBuffer, BadState, BadArgument, BadImage}
 
--- "What a call answers": the number
+-- the number of an answer (01, What a call answers)
 abbrev pub numberOf : Answer → ℕ
 numberOf (Done n) = 0
 numberOf Started = 1
@@ -20,7 +20,7 @@ numberOf BadState = 5
 numberOf BadArgument = 6
 numberOf BadImage = 7
 
--- "The number comes with the count of octets written": only 0 and 2 write any
+-- how many octets were written: only answers 0 and 2 come with any (01, What a call answers)
 abbrev pub countOf : Answer → ℕ
 countOf (Done n) = n
 countOf Started = 0
@@ -36,6 +36,6 @@ pub record Gives (o : Result Octets) (r : Answer) (before after left : Octets) :
   pub answer : numberOf r ≡ o .answer
   -- the count is the length of what is written
   pub count : countOf r ≡ length (o .octets)
-  -- "Octets past that count stay as they were"
+  -- behind them the reply buffer is as it was
   pub reply : after ≡ o .octets ++ drop (length (o .octets)) before
   pub state : left ≡ o .state
