@@ -113,7 +113,7 @@ pub enum ArgumentFault {
     NothingUnderWay,
     /// A report status above the last.
     ReportStatus,
-    /// A clock step of half the range or more.
+    /// A clock step that is too long.
     ClockStep,
 }
 
