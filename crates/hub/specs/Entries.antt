@@ -18,8 +18,8 @@ use Rattle.model.specs.declared.Answer.the-variants.{BadState}
 unfoldable pub packed : Answer → ℕ
 packed a = numberOf a + 256 * countOf a
 
--- The number returned is that of the model's result o with the count of its octets; the reply buffer `before` has become `after`, with "octets past
--- that count as they were"; the state is `left`.
+-- The number returned is that of the model's result o with the count of its octets; the reply buffer `before` has become `after`, with these octets at
+-- its front and the rest untouched (01, What a call answers); the state is `left`.
 pub record Returns (o : Result Octets) (r : ℕ) (before after left : Octets) : Type 0 where
   pub number : r ≡ o .answer + 256 * length (o .octets)
   pub reply : after ≡ o .octets ++ drop (length (o .octets)) before

@@ -194,7 +194,7 @@ module _ (s : Octets) (i : ℕ) (ready : Ready s i) (d₀ : Octets) (p₀ : ℕ)
 
 -- 3. The fixed part, and a controller ---------------------------------------------------------------------------------------------------------------
 
--- version 1, manufacturer 2, supported 4, flags 4: the numbers have 11 octets
+-- the numbers of a controller's image have 1 + 2 + 4 + 4 = 11 octets
 pub length-numbers : (m : Settings) → length (numbersImage m) ≡ 11
 unfolding numbersImage be16 be32
 length-numbers m = refl

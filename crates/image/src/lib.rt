@@ -1,4 +1,4 @@
-// The image: what save writes of a state and load takes. Numbers are big-endian here; addresses, names and records keep packet order.
+// The image: what save writes of a state and load takes. Numbers stand high octet first; addresses, names and records stand as in packets.
 ghost use mathlib.Core.Path.{_≡_};
 ghost use mathlib.Core.Bool.{true};
 ghost use Prim.Native.Nat.{_+_, _*_, _≤_, _<_};

@@ -78,7 +78,7 @@ put-back : (s : Octets) (i : ℕ) → Ready s i → s ≡ encode (putController 
 unfolding putController withController withHost
 put-back s i g = state-back s (g .ok) ∙ rw (← present-slot s i (g .here), set-getD)
 
--- "0x0004 [0]": without parameters the length is right
+-- 0x0004 has no parameters: then the length is right (01, Commands, 0x0004)
 size-true : (ps : Octets) → length ps ≡ 0 → readInformation .size ps ≡ true
 unfolding readInformation sized
 size-true ps e = eq-eqb (length ps) 0 e

@@ -90,7 +90,7 @@ load-is : (buffer o : Octets) (p : PlainHub) → eqb (length buffer) stateLength
 unfolding hubLoad loadMeaning loadedInto
 load-is buffer o p n l = rw (n, loadMeaning, l)
 
--- A saved image loads to the state with power, discoverable, timers, clock and open commands cleared and slots closed up.
+-- A saved image loads to the state that `reloadedHub` says: power and discoverable off, no timer, clock 0, nothing open, the records in the lowest slots.
 pub saved-image-loads : (s buffer : Octets) (room : ℕ) → stateOk s ≡ true → ltb room 16014 ≡ false → eqb (length buffer) stateLength ≡ true
     → hubLoad buffer (hubSave s room .octets) ≡ record { answer = 0; octets = []; state = encode (idle (reloadedHub (decode s .plain))) }
 unfolding wellFormed

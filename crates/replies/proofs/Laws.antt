@@ -128,7 +128,7 @@ settings-short i c old new = go (eqb old new)
 
 -- THE REPLY BUFFER ----------------------------------------------------------------------------------------------------------------------------
 
--- what was written at the front, and "octets past that count stay as they were": the field `reply` of Gives
+-- what was written at the front, and behind it the buffer as it was: the field `reply` of Gives
 pub gives-reply : (before after octets : Octets) → length octets ≤ length before → after ≡ writeAt before 0 octets → after ≡ octets ++ drop (length octets) before
 gives-reply before after octets h e = e ∙ write-front before octets h
 

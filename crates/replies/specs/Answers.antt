@@ -14,6 +14,6 @@ pub record Gives (o : Result Octets) (r : Answer) (before after left : Octets) :
   pub answer : numberOf r ≡ o .answer
   -- the count is the length of what is written
   pub count : countOf r ≡ length (o .octets)
-  -- "Octets past that count stay as they were"
+  -- behind them the reply buffer is as it was
   pub reply : after ≡ o .octets ++ drop (length (o .octets)) before
   pub state : left ≡ o .state

@@ -157,7 +157,7 @@ pub fn refuse(reply: &mut [u8], index: u64, code: u64, status: u8) -> Answer
     Answer::Refused(9)
 }
 
-// An address command is refused by Command Complete with the received address and type, the first seven octets of its parameters.
+// An address command is refused by Command Complete, which echoes the first seven octets of its parameters, address and type.
 pub fn refuse_address(reply: &mut [u8], index: u64, code: u64, status: u8, ps: &[u8]) -> Answer
     requires { ⌜ (16 ≤ length (now reply)) × (7 ≤ length (now ps)) ⌝ }
     ensures { λ r. ⌜ (r ≡ Refused 16) × (now (reply .exit) ≡ writeAt (now (reply .entry)) 0 (commandComplete index code status (take 7 (now (ps .entry))))) ⌝ }

@@ -30,8 +30,8 @@ unfoldable pub beforeBusyOf : Decision → Option Reason → Decision
 beforeBusyOf d (some x) = Refuse (statusOf x)
 beforeBusyOf d none = d
 
--- "first that applies: values, Invalid Parameters; Not Supported; Not Powered; Busy; Rejected": a command with Refuse is refused even where
--- another is under way; one with Reject, Wait or Act is Busy there
+-- Values, support and power are checked before Busy, what is Rejected after it (01, Order inside a command): a command with Refuse is refused even
+-- where another is under way; one with Reject, Wait or Act is Busy there
 unfoldable pub decision : RadioRule → RadioSettings → Octets → Decision
 decision r x ps = beforeBusyOf (afterBusyOf (r .waits x ps) (firstOf (r .afterBusy x ps))) (firstOf (r .beforeBusy x ps))
 
@@ -48,7 +48,7 @@ isWait (Reject s) = false
 isWait Wait = true
 isWait Act = false
 
--- "discoverable only if connectable; timer only if powered and discoverable; powered only with an address", of the settings alone
+-- what the settings alone must keep: connectable for discoverable, power and discoverable for a timer, an address for power (01, The image, Well formed)
 unfoldable pub settingsOk : Settings → Bool
 settingsOk m =
     settingsFit (m .host .timer .discoverable) (m .radio .connectable) (eqb (m .host .timer .seconds) 0) (m .radio .powered) (addressed (m .radio))

@@ -46,7 +46,7 @@ fn apply(
 
 // Set Bondable
 
-// 0x0009 Set Bondable, always at once.
+// 0x0009 Set Bondable: it waits for no radio.
 pub fn set_bondable(state: &mut [u8], index: u64, ps: &[u8], reply: &mut [u8]) -> Answer
     requires { ⌜ Ready (now state) index × (1024 ≤ length (now reply)) ⌝ }
     ensures { λ r. ⌜ Gives (served (now (state .entry)) index 0x0009 (now (ps .entry)) setBondable) r (now (reply .entry)) (now (reply .exit)) (now (state .exit)) ⌝ }
