@@ -1,3 +1,7 @@
+pub mod Statuses
+pub mod Codes
+pub mod Events
+pub mod Lengths
 pub mod Octets
 pub mod State
 pub mod Answers

@@ -3,19 +3,21 @@ use Prim.Native.Nat.{ℕ, _^_, _≤_, _<_}
 use native.Mathlib.Omega.{arith}
 use mathlib.Core.Path.{_≡_, refl, sym, ap, _∙_}
 use mathlib.Core.Bool.{true, false}
-use mathlib.Core.List.{[]}
+use mathlib.Core.List.{[], map}
 use mathlib.Core.Logic.{_↔_}
 use mathlib.Core.Option.{some}
-use lib.ListN.{length}
+use lib.ListN.{length, drop}
 use lib.Dec.{eqb, leb, ltb, lit≤}
+use Rattle.model.specs.Lengths as Lengths
 use Rattle.model.specs.Octets.{Octets, bytes, open-octets}
 use Rattle.model.specs.State.{Hub, PlainHub, idle, open-state}
 use Rattle.model.specs.Reasons.{open-reasons}
 use Rattle.model.specs.Tables.{open-tables}
+use Rattle.model.specs.Commands.{Row, commandCodes, rows}
 use Rattle.model.specs.Image.{image, load, open-image, reloadedHub}
 use Rattle.model.specs.Hub.{Call, Outcome, Result, answerOf, call, callPlain, clock, command, keep, octetsOf, plug, report, save, stateOf, unplug, within}
 use Rattle.model.specs.WellFormed.{callWide, open-wellformed, plainOk, wellFormed}
-use Rattle.model.specs.Layout.{decode, encode, stateLength}
+use Rattle.model.specs.Layout.{decode, encode}
 use Rattle.model.specs.Meanings.{badState, hubLoad, hubSave, laidOut, loadMeaning, loadedInto, meaning, stateOk}
 use Rattle.model.specs.Written.{OneReply, Written, roomOf}
 use Rattle.model.specs.Demand3.{Demand3}
@@ -67,17 +69,17 @@ refused-load-changes-nothing = load-refused-same
 -- The image -----------------------------------------------------------------------------------------------------------------------------------
 
 -- save of a hub, with room for the largest image
-save-call : (h : Hub) (room : ℕ) → ltb room 16014 ≡ false → call h (save room) ≡ record { answer = 0; octets = image (h .plain); state = h }
+save-call : (h : Hub) (room : ℕ) → ltb room Lengths.largestImage ≡ false → call h (save room) ≡ record { answer = 0; octets = image (h .plain); state = h }
 unfolding call keep callPlain within answerOf octetsOf stateOf
 save-call h room r = rw (r, within)
 
 -- save on the state of a well-formed hub, with that room
-save-is : (h : Hub) (room : ℕ) → wellFormed h ≡ true → ltb room 16014 ≡ false → hubSave (encode h) room ≡ record { answer = 0; octets = image (h .plain); state = encode h }
+save-is : (h : Hub) (room : ℕ) → wellFormed h ≡ true → ltb room Lengths.largestImage ≡ false → hubSave (encode h) room ≡ record { answer = 0; octets = image (h .plain); state = encode h }
 unfolding hubSave laidOut
 save-is h room e r = meaning-is h (save room) e ∙ ap laidOut (save-call h room r)
 
 -- An accepted image is saved again octet for octet.
-pub accepted-image-saved-again : (buffer o : Octets) (room : ℕ) → bytes o ≡ true → hubLoad buffer o .answer ≡ 0 → ltb room 16014 ≡ false
+pub accepted-image-saved-again : (buffer o : Octets) (room : ℕ) → bytes o ≡ true → hubLoad buffer o .answer ≡ 0 → ltb room Lengths.largestImage ≡ false
     → hubSave (hubLoad buffer o .state) room ≡ record { answer = 0; octets = o; state = hubLoad buffer o .state }
 unfolding idle
 accepted-image-saved-again buffer o room b e r =
@@ -86,12 +88,12 @@ accepted-image-saved-again buffer o room b e r =
     rw (t .state, save-is (idle (t .hub)) room (idle-ok (t .hub) k) r, saved-again o (t .hub) b (t .loads))
 
 -- load of an acceptable image
-load-is : (buffer o : Octets) (p : PlainHub) → eqb (length buffer) stateLength ≡ true → load o ≡ some p → hubLoad buffer o ≡ record { answer = 0; octets = []; state = encode (idle p) }
+load-is : (buffer o : Octets) (p : PlainHub) → eqb (length buffer) Lengths.state ≡ true → load o ≡ some p → hubLoad buffer o ≡ record { answer = 0; octets = []; state = encode (idle p) }
 unfolding hubLoad loadMeaning loadedInto
 load-is buffer o p n l = rw (n, loadMeaning, l)
 
 -- A saved image loads to the state that `reloadedHub` says: power and discoverable off, no timer, clock 0, nothing open, the records in the lowest slots.
-pub saved-image-loads : (s buffer : Octets) (room : ℕ) → stateOk s ≡ true → ltb room 16014 ≡ false → eqb (length buffer) stateLength ≡ true
+pub saved-image-loads : (s buffer : Octets) (room : ℕ) → stateOk s ≡ true → ltb room Lengths.largestImage ≡ false → eqb (length buffer) Lengths.state ≡ true
     → hubLoad buffer (hubSave s room .octets) ≡ record { answer = 0; octets = []; state = encode (idle (reloadedHub (decode s .plain))) }
 unfolding wellFormed
 saved-image-loads s buffer room e r n =
@@ -100,16 +102,16 @@ saved-image-loads s buffer room e r n =
     rw i (load-is buffer (image (decode s .plain)) (reloadedHub (decode s .plain)) n (load-image (decode s .plain) (and-true (plainOk (decode s .plain)) _ w .0)))
 
 -- save of a well-formed hub writes at most 16,014 octets
-save-length : (h : Hub) (room : ℕ) → wellFormed h ≡ true → length (call h (save room) .octets) ≤ 16014
+save-length : (h : Hub) (room : ℕ) → wellFormed h ≡ true → length (call h (save room) .octets) ≤ Lengths.largestImage
 unfolding call keep callPlain within octetsOf wellFormed
 save-length h room e =
-    either {A = Outcome} (λ o. length (octetsOf o) ≤ 16014) (ltb room 16014) (λ _. lit≤ tt) (λ _. image-most (h .plain) (and-true (plainOk (h .plain)) _ e .0))
+    either {A = Outcome} (λ o. length (octetsOf o) ≤ Lengths.largestImage) (ltb room Lengths.largestImage) (λ _. lit≤ tt) (λ _. image-most (h .plain) (and-true (plainOk (h .plain)) _ e .0))
 
 -- No image is longer than 16,014 octets, whatever is lent and whatever is loaded.
-pub no-image-longer : (s : Octets) (room : ℕ) → length (hubSave s room .octets) ≤ 16014
+pub no-image-longer : (s : Octets) (room : ℕ) → length (hubSave s room .octets) ≤ Lengths.largestImage
 unfolding hubSave meaning laidOut badState
 no-image-longer s room =
-    either {A = Result Octets} (λ r. length (r .octets) ≤ 16014) (stateOk s) (λ e. save-length (decode s) room (state-well s e)) (λ _. lit≤ tt)
+    either {A = Result Octets} (λ r. length (r .octets) ≤ Lengths.largestImage) (stateOk s) (λ e. save-length (decode s) room (state-well s e)) (λ _. lit≤ tt)
 
 -- the hub with all tables full is well formed
 full-valid : plainOk fullHub ≡ true
@@ -117,16 +119,23 @@ unfolding open-octets open-state open-reasons open-tables open-image open-wellfo
 full-valid = refl
 
 -- its image has 16,014 octets
-full-length : length (image fullHub) ≡ 16014
+full-length : length (image fullHub) ≡ Lengths.largestImage
 unfolding open-octets open-state open-reasons open-tables open-image dualHardware records fullTable fullController fullHub
 full-length = refl
 
 -- One is that long: that of four controllers with all tables full.
-pub one-image-that-long : (stateOk (encode (idle fullHub)) ≡ true) × (length (hubSave (encode (idle fullHub)) 16014 .octets) ≡ 16014)
+pub one-image-that-long : (stateOk (encode (idle fullHub)) ≡ true) × (length (hubSave (encode (idle fullHub)) Lengths.largestImage .octets) ≡ Lengths.largestImage)
 unfolding idle
 one-image-that-long =
     let w = idle-ok fullHub full-valid in
-    (encode-ok (idle fullHub) w, ap (λ (x : Result Octets). length (x .octets)) (save-is (idle fullHub) 16014 w refl) ∙ full-length)
+    (encode-ok (idle fullHub) w, ap (λ (x : Result Octets). length (x .octets)) (save-is (idle fullHub) Lengths.largestImage w refl) ∙ full-length)
+
+-- Commands -----------------------------------------------------------------------------------------------------------------------------------
+
+-- Read Management Supported Commands lists the codes of the table of commands from the third on, and no other.
+pub commands-listed : map (λ (r : Row). r .0) (drop 2 rows) ≡ commandCodes
+unfolding rows commandCodes
+commands-listed = refl
 
 -- What is written ----------------------------------------------------------------------------------------------------------------------------
 
@@ -163,7 +172,7 @@ no-reply-longer s (unplug room i) = room-state s (unplug room i) refl
 no-reply-longer s (save room) = no-image-longer s room
 
 -- No call asks for more than 16,014 octets.
-pub room-most : (c : Call) → roomOf c ≤ 16014
+pub room-most : (c : Call) → roomOf c ≤ Lengths.largestImage
 unfolding roomOf
 room-most (command room packet) = omega arith
 room-most (report room i status) = omega arith

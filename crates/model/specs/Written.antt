@@ -5,6 +5,9 @@ use mathlib.Core.Bool.{Bool, true, _||_}
 use mathlib.Core.List.{[]}
 use lib.ListN.{length, take}
 use lib.Dec.{eqb}
+use Rattle.model.specs.Lengths as Lengths
+use Rattle.model.specs.Statuses as Statuses
+use Rattle.model.specs.Codes as Codes
 use Rattle.model.specs.Octets.{Octets, commandComplete, commandStatus}
 use Rattle.model.specs.Answers.{numberOf, Done, Started, Refused, BadPacket, SmallBuffer, BadState, BadArgument}
 use Rattle.model.specs.Reasons.{Reason, statusOf}
@@ -12,23 +15,28 @@ use Rattle.model.specs.Hub.{Call, command, report, clock, plug, unplug, 
 
 -- the octets of reply buffer that a call asks for, whatever it will write (01, What a call answers, 4)
 unfoldable pub roomOf : Call → ℕ
-roomOf (command room packet) = 1024
-roomOf (report room i s) = 1024
-roomOf (clock room reading) = 1024
-roomOf (plug room i f) = 1024
-roomOf (unplug room i) = 1024
-roomOf (save room) = 16014
+roomOf (command room packet) = Lengths.replyBuffer
+roomOf (report room i s) = Lengths.replyBuffer
+roomOf (clock room reading) = Lengths.replyBuffer
+roomOf (plug room i f) = Lengths.replyBuffer
+roomOf (unplug room i) = Lengths.replyBuffer
+roomOf (save room) = Lengths.largestImage
 
 -- the five address commands: Unpair Device, Block Device, Unblock Device, Add Device, Remove Device (01, Order inside a command)
 unfoldable pub addressCommand : ℕ → Bool
-addressCommand code = eqb code 0x001B || (eqb code 0x0026 || (eqb code 0x0027 || (eqb code 0x0033 || eqb code 0x0034)))
+addressCommand code =
+    eqb code Codes.unpairDevice
+    || (eqb code Codes.blockDevice
+    || (eqb code Codes.unblockDevice
+    || (eqb code Codes.addDevice
+    || eqb code Codes.removeDevice)))
 
 -- the status of a refusal: that of a reason, or Busy
 pub data RefusalStatus : ℕ → Type 0 where
   -- one of the conditions that a command fails
   because : (r : Reason) → RefusalStatus (statusOf r)
   -- a command is under way at its index
-  busy : RefusalStatus 0x0A
+  busy : RefusalStatus Statuses.busy
 
 -- The one reply to a refused command, with the code and index of its packet: Command Status; or, only of an address command, Command Complete with
 -- the address and type of its packet (01, Order inside a command).

@@ -9,6 +9,9 @@ use lib.Dec.{eqb}
 use Rattle.model.specs.Octets.{Octets}
 use Rattle.model.specs.declared.RadioSettings.{RadioSettings}
 use Rattle.model.specs.declared.Settings.{Settings}
+use Rattle.model.specs.Answers.{numberOf}
+use Rattle.model.specs.declared.Answer.{Answer}
+use Rattle.model.specs.declared.Answer.the-variants.{Done, Started, Refused}
 use Rattle.model.specs.Reasons.{Reason, Check, statusOf, firstOf}
 use Rattle.model.specs.Rules.{RadioRule}
 use Rattle.model.specs.WellFormed.{addressed, settingsFit}
@@ -41,12 +44,23 @@ pub record Fails (cs : List Check) (status : ℕ) : Type 0 where
   pub first : firstOf cs ≡ some reason
   pub told : statusOf reason ≡ status
 
--- a decision that waits
+-- the answer of each decision with nothing under way, where n octets are written: its number and count are the table's (01, What a call answers)
+abbrev pub decisionAnswer : ℕ → Decision → Answer
+decisionAnswer n (Refuse s) = Refused n
+decisionAnswer n (Reject s) = Refused n
+decisionAnswer n Wait = Started
+decisionAnswer n Act = Done n
+
+-- the status of each: of a refusal the one it names, else 0, which is success
+abbrev pub decisionStatus : Decision → ℕ
+decisionStatus (Refuse s) = s
+decisionStatus (Reject s) = s
+decisionStatus Wait = 0
+decisionStatus Act = 0
+
+-- a decision that waits: the command is started
 unfoldable pub isWait : Decision → Bool
-isWait (Refuse s) = false
-isWait (Reject s) = false
-isWait Wait = true
-isWait Act = false
+isWait d = eqb (numberOf (decisionAnswer 0 d)) (numberOf Started)
 
 -- what the settings alone must keep: connectable for discoverable, power and discoverable for a timer, an address for power (01, The image, Well formed)
 unfoldable pub settingsOk : Settings → Bool

@@ -7,6 +7,8 @@ use mathlib.Core.List.{List, [], _∷_}
 use mathlib.Core.Option.{Option, none, some}
 use lib.ListN.{length, take}
 use lib.Dec.{eqb, leb, ltb}
+use Rattle.model.specs.Lengths as Lengths
+use Rattle.model.specs.Statuses as Statuses
 use Rattle.model.specs.Octets.{Octets, commandStatus}
 use Rattle.model.specs.State.{Controller, Hardware, Hub, OpenCommand, PlainHub, controllerAt, hardwareOk}
 use Rattle.model.specs.Reasons.{Reason, statusOf, codeUnknown, controllerAbsent, firstOf, indexNotNone, lengthWrong}
@@ -18,7 +20,7 @@ use Rattle.model.specs.Hub.{clock, clockOut, codeOf, command, commandOut
 use Rattle.model.specs.Hub.{octetsOf, outcome, packetOk, paramsOf, plug, plugOut, radioAfterBusy, radioAt, radioBeforeBusy, refusalForm, refusalOctets, refused, report}
 use Rattle.model.specs.Hub.{reportOut, save, stepOf, underWay, unlessBusy, unplug, unplugOut, unplugged, verdict, within}
 use Rattle.model.specs.Image.{image, load}
-use Rattle.model.specs.Layout.{decode, stateLength}
+use Rattle.model.specs.Layout.{decode}
 use Rattle.model.specs.Meanings.{badState, hubLoad, laidOut, loadMeaning, loadedInto, meaning, stateOk}
 use Rattle.model.specs.Written.{OneReply, Written, addressCommand, because, busy, byCommandComplete, byCommandStatus, ofCommand}
 use Rattle.model.specs.Written as W
@@ -151,7 +153,7 @@ module _ (room : ℕ) (packet : Octets) where
   verdict-formed : (p : PlainHub) → Formed (command room packet) (outcome (verdict p room packet))
   unfolding Formed verdict outcome
   verdict-formed p =
-      either {A = Verdict} (λ v. Formed (command room packet) (outcome v)) (ltb room 1024) (λ _. tt)
+      either {A = Verdict} (λ v. Formed (command room packet) (outcome v)) (ltb room Lengths.replyBuffer) (λ _. tt)
       (λ _. either {A = Verdict} (λ v. Formed (command room packet) (outcome v)) (packetOk packet)
       (λ _. rule-formed p (rule (codeOf packet)) refl) (λ _. W.badPacket))
 
@@ -224,7 +226,7 @@ report-written : (c : Call) (h : Hub) (i s : ℕ) (x : Option OpenCommand) → W
 unfolding reportOut keep finish
 report-written c h i s none = bad-written c
 report-written c h i s (some o) =
-    either {A = Result Hub} (λ r. Written c (r .answer) (r .octets)) (ltb 0x14 s) (λ _. bad-written c)
+    either {A = Result Hub} (λ r. Written c (r .answer) (r .octets)) (ltb Statuses.highest s) (λ _. bad-written c)
     (λ _. either {A = Result Hub} (λ r. Written c (r .answer) (r .octets)) (eqb s 0)
     (λ _. outcome-written c (finish (h .plain) i o) (finish-formed c (h .plain) i o (rule (o .code)) (controllerAt (h .plain) i))) (λ _. W.done))
 
@@ -235,21 +237,21 @@ call-written : (h : Hub) (c : Call) → Written c (call h c .answer) (call h c .
 unfolding call callPlain keep Formed answerOf octetsOf
 call-written h (command room packet) = command-written room packet h (verdict (h .plain) room packet) (underWay h (indexOf packet)) (verdict-formed room packet (h .plain))
 call-written h (report room i s) =
-    either {A = Result Hub} (λ r. Written (report room i s) (r .answer) (r .octets)) (ltb room 1024) (λ _. W.smallBuffer) (λ _. report-written (report room i s) h i s (underWay h i))
+    either {A = Result Hub} (λ r. Written (report room i s) (r .answer) (r .octets)) (ltb room Lengths.replyBuffer) (λ _. W.smallBuffer) (λ _. report-written (report room i s) h i s (underWay h i))
 call-written h (clock room reading) =
     let o = clockOut (h .plain) reading in
-    outcome-written (clock room reading) (within 1024 room o) (within-formed (clock room reading) 1024 room o (clock-formed (clock room reading) (h .plain) reading))
+    outcome-written (clock room reading) (within Lengths.replyBuffer room o) (within-formed (clock room reading) Lengths.replyBuffer room o (clock-formed (clock room reading) (h .plain) reading))
 call-written h (plug room i f) =
     let s = controllerAt (h .plain) i in
     let o = plugOut (h .plain) i f s in
-    outcome-written (plug room i f) (within 1024 room o) (within-formed (plug room i f) 1024 room o (plug-formed (plug room i f) (h .plain) i f s))
+    outcome-written (plug room i f) (within Lengths.replyBuffer room o) (within-formed (plug room i f) Lengths.replyBuffer room o (plug-formed (plug room i f) (h .plain) i f s))
 call-written h (unplug room i) =
     let s = controllerAt (h .plain) i in
     let o = unplugOut (h .plain) i s in
-    unplug-written (unplug room i) h i (within 1024 room o) (within-formed (unplug room i) 1024 room o (unplug-formed (unplug room i) (h .plain) i s))
+    unplug-written (unplug room i) h i (within Lengths.replyBuffer room o) (within-formed (unplug room i) Lengths.replyBuffer room o (unplug-formed (unplug room i) (h .plain) i s))
 call-written h (save room) =
     let o = finished (image (h .plain)) (h .plain) in
-    outcome-written (save room) (within 16014 room o) (within-formed (save room) 16014 room o tt)
+    outcome-written (save room) (within Lengths.largestImage room o) (within-formed (save room) Lengths.largestImage room o tt)
 
 -- EVERY CALL WRITES WHAT ITS ANSWER LETS IT WRITE, whatever the lent octets hold
 pub state-written : (s : Octets) (c : Call) → Written c (meaning s c .answer) (meaning s c .octets)
@@ -298,4 +300,4 @@ load-written-by s (some p) = (omega arith, refl)
 pub load-written : (s o : Octets) → (hubLoad s o .answer ≤ 7) × (hubLoad s o .octets ≡ [])
 unfolding hubLoad loadMeaning badState
 load-written s o =
-    either {A = Result Octets} (λ r. (r .answer ≤ 7) × (r .octets ≡ [])) (eqb (length s) stateLength) (λ _. load-written-by s (load o)) (λ _. (omega arith, refl))
+    either {A = Result Octets} (λ r. (r .answer ≤ 7) × (r .octets ≡ [])) (eqb (length s) Lengths.state) (λ _. load-written-by s (load o)) (λ _. (omega arith, refl))
