@@ -74,7 +74,8 @@ unfolding call keep callPlain within answerOf octetsOf stateOf
 save-call h room r = rw (r, within)
 
 -- save on the state of a well-formed hub, with that room
-save-is : (h : Hub) (room : ℕ) → wellFormed h ≡ true → ltb room Lengths.largestImage ≡ false → hubSave (encode h) room ≡ record { answer = 0; octets = image (h .plain); state = encode h }
+save-is : (h : Hub) (room : ℕ) → wellFormed h ≡ true → ltb room Lengths.largestImage ≡ false
+    → hubSave (encode h) room ≡ record { answer = 0; octets = image (h .plain); state = encode h }
 unfolding hubSave laidOut
 save-is h room e r = meaning-is h (save room) e ∙ ap laidOut (save-call h room r)
 
@@ -88,7 +89,8 @@ accepted-image-saved-again buffer o room b e r =
     rw (t .state, save-is (idle (t .hub)) room (idle-ok (t .hub) k) r, saved-again o (t .hub) b (t .loads))
 
 -- load of an acceptable image
-load-is : (buffer o : Octets) (p : PlainHub) → eqb (length buffer) Lengths.state ≡ true → load o ≡ some p → hubLoad buffer o ≡ record { answer = 0; octets = []; state = encode (idle p) }
+load-is : (buffer o : Octets) (p : PlainHub) → eqb (length buffer) Lengths.state ≡ true → load o ≡ some p
+    → hubLoad buffer o ≡ record { answer = 0; octets = []; state = encode (idle p) }
 unfolding hubLoad loadMeaning loadedInto
 load-is buffer o p n l = rw (n, loadMeaning, l)
 
@@ -98,14 +100,17 @@ pub saved-image-loads : (s buffer : Octets) (room : ℕ) → stateOk s ≡ true 
 unfolding wellFormed
 saved-image-loads s buffer room e r n =
     let w = state-well s e in
-    let i : hubSave s room .octets ≡ image (decode s .plain) = ap (λ (x : Octets). hubSave x room .octets) (state-back s e) ∙ ap (λ (x : Result Octets). x .octets) (save-is (decode s) room w r) in
-    rw i (load-is buffer (image (decode s .plain)) (reloadedHub (decode s .plain)) n (load-image (decode s .plain) (and-true (plainOk (decode s .plain)) _ w .0)))
+    let i : hubSave s room .octets ≡ image (decode s .plain) = ap (λ (x : Octets). hubSave x room .octets) (state-back s e)
+    ∙ ap (λ (x : Result Octets). x .octets) (save-is (decode s) room w r) in
+    rw i (load-is buffer (image (decode s .plain)) (reloadedHub (decode s .plain)) n
+    (load-image (decode s .plain) (and-true (plainOk (decode s .plain)) _ w .0)))
 
 -- save of a well-formed hub writes at most 16,014 octets
 save-length : (h : Hub) (room : ℕ) → wellFormed h ≡ true → length (call h (save room) .octets) ≤ Lengths.largestImage
 unfolding call keep callPlain within octetsOf wellFormed
 save-length h room e =
-    either {A = Outcome} (λ o. length (octetsOf o) ≤ Lengths.largestImage) (ltb room Lengths.largestImage) (λ _. lit≤ tt) (λ _. image-most (h .plain) (and-true (plainOk (h .plain)) _ e .0))
+    either {A = Outcome} (λ o. length (octetsOf o) ≤ Lengths.largestImage) (ltb room Lengths.largestImage) (λ _. lit≤ tt)
+    (λ _. image-most (h .plain) (and-true (plainOk (h .plain)) _ e .0))
 
 -- No image is longer than 16,014 octets, whatever is lent and whatever is loaded.
 pub no-image-longer : (s : Octets) (room : ℕ) → length (hubSave s room .octets) ≤ Lengths.largestImage
@@ -124,7 +129,8 @@ unfolding open-octets open-state open-reasons open-tables open-image dualHardwar
 full-length = refl
 
 -- One is that long: that of four controllers with all tables full.
-pub one-image-that-long : (stateOk (encode (idle fullHub)) ≡ true) × (length (hubSave (encode (idle fullHub)) Lengths.largestImage .octets) ≡ Lengths.largestImage)
+pub one-image-that-long : (stateOk (encode (idle fullHub)) ≡ true)
+    × (length (hubSave (encode (idle fullHub)) Lengths.largestImage .octets) ≡ Lengths.largestImage)
 unfolding idle
 one-image-that-long =
     let w = idle-ok fullHub full-valid in

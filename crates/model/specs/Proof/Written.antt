@@ -13,11 +13,15 @@ use Rattle.model.specs.Octets.{Octets, commandStatus}
 use Rattle.model.specs.State.{Controller, Hardware, Hub, OpenCommand, PlainHub, controllerAt, hardwareOk}
 use Rattle.model.specs.Reasons.{Reason, statusOf, codeUnknown, controllerAbsent, firstOf, indexNotNone, lengthWrong}
 use Rattle.model.specs.Rules.{Immediate, ImmediateRule, RadioRule, Rule, done, general, immediate, radio, refuse}
-use Rattle.model.specs.Immediate.{addDevice, addUuid, blockDevice, loadKeys, readInformation, removeDevice, removeUuid, setBondable, setLocalName, unblockDevice, unpairDevice}
+use Rattle.model.specs.Immediate.{addDevice, addUuid, blockDevice, loadKeys, readInformation, removeDevice, removeUuid, setBondable}
+use Rattle.model.specs.Immediate.{setLocalName, unblockDevice, unpairDevice}
 use Rattle.model.specs.Commands.{Row, find, rows, rule}
-use Rattle.model.specs.Hub.{Call, Outcome, RefusalForm, Result, Verdict, acted, answerOf, anyway, badArgument, badPacket, busyOr, byRule, byStatus, call, callPlain}
-use Rattle.model.specs.Hub.{clock, clockOut, codeOf, command, commandOut, finish, finishBy, finished, generalOut, immediateAt, immediateDone, indexOf, keep, noRoom}
-use Rattle.model.specs.Hub.{octetsOf, outcome, packetOk, paramsOf, plug, plugOut, radioAfterBusy, radioAt, radioBeforeBusy, refusalForm, refusalOctets, refused, report}
+use Rattle.model.specs.Hub.{Call, Outcome, RefusalForm, Result, Verdict, acted, answerOf, anyway, badArgument, badPacket, busyOr, byRule}
+use Rattle.model.specs.Hub.{byStatus, call, callPlain}
+use Rattle.model.specs.Hub.{clock, clockOut, codeOf, command, commandOut, finish, finishBy, finished, generalOut, immediateAt, immediateDone}
+use Rattle.model.specs.Hub.{indexOf, keep, noRoom}
+use Rattle.model.specs.Hub.{octetsOf, outcome, packetOk, paramsOf, plug, plugOut, radioAfterBusy, radioAt, radioBeforeBusy, refusalForm}
+use Rattle.model.specs.Hub.{refusalOctets, refused, report}
 use Rattle.model.specs.Hub.{reportOut, save, stepOf, underWay, unlessBusy, unplug, unplugOut, unplugged, verdict, within}
 use Rattle.model.specs.Image.{image, load}
 use Rattle.model.specs.Layout.{decode}
@@ -85,7 +89,8 @@ row-test t code (r ∷ rs) u e f = let h = and-true (t (r .0) (r .1)) (everyRow 
 
 -- every row of the table of commands passes
 rows-by-address : everyRow byAddressOk rows ≡ true
-unfolding rows everyRow byAddressOk addressCommand readInformation setBondable setLocalName addUuid removeUuid loadKeys unpairDevice blockDevice unblockDevice addDevice removeDevice
+unfolding rows everyRow byAddressOk addressCommand readInformation setBondable setLocalName addUuid removeUuid loadKeys unpairDevice blockDevice
+    unblockDevice addDevice removeDevice
 rows-by-address = refl
 
 -- a command that is refused by address is one of the five
@@ -235,20 +240,25 @@ report-written c h i s (some o) =
 -- any call to our hub
 call-written : (h : Hub) (c : Call) → Written c (call h c .answer) (call h c .octets)
 unfolding call callPlain keep Formed answerOf octetsOf
-call-written h (command room packet) = command-written room packet h (verdict (h .plain) room packet) (underWay h (indexOf packet)) (verdict-formed room packet (h .plain))
+call-written h (command room packet) =
+    command-written room packet h (verdict (h .plain) room packet) (underWay h (indexOf packet)) (verdict-formed room packet (h .plain))
 call-written h (report room i s) =
-    either {A = Result Hub} (λ r. Written (report room i s) (r .answer) (r .octets)) (ltb room Lengths.replyBuffer) (λ _. W.smallBuffer) (λ _. report-written (report room i s) h i s (underWay h i))
+    either {A = Result Hub} (λ r. Written (report room i s) (r .answer) (r .octets)) (ltb room Lengths.replyBuffer) (λ _. W.smallBuffer)
+    (λ _. report-written (report room i s) h i s (underWay h i))
 call-written h (clock room reading) =
     let o = clockOut (h .plain) reading in
-    outcome-written (clock room reading) (within Lengths.replyBuffer room o) (within-formed (clock room reading) Lengths.replyBuffer room o (clock-formed (clock room reading) (h .plain) reading))
+    outcome-written (clock room reading) (within Lengths.replyBuffer room o)
+    (within-formed (clock room reading) Lengths.replyBuffer room o (clock-formed (clock room reading) (h .plain) reading))
 call-written h (plug room i f) =
     let s = controllerAt (h .plain) i in
     let o = plugOut (h .plain) i f s in
-    outcome-written (plug room i f) (within Lengths.replyBuffer room o) (within-formed (plug room i f) Lengths.replyBuffer room o (plug-formed (plug room i f) (h .plain) i f s))
+    outcome-written (plug room i f) (within Lengths.replyBuffer room o)
+    (within-formed (plug room i f) Lengths.replyBuffer room o (plug-formed (plug room i f) (h .plain) i f s))
 call-written h (unplug room i) =
     let s = controllerAt (h .plain) i in
     let o = unplugOut (h .plain) i s in
-    unplug-written (unplug room i) h i (within Lengths.replyBuffer room o) (within-formed (unplug room i) Lengths.replyBuffer room o (unplug-formed (unplug room i) (h .plain) i s))
+    unplug-written (unplug room i) h i (within Lengths.replyBuffer room o)
+    (within-formed (unplug room i) Lengths.replyBuffer room o (unplug-formed (unplug room i) (h .plain) i s))
 call-written h (save room) =
     let o = finished (image (h .plain)) (h .plain) in
     outcome-written (save room) (within Lengths.largestImage room o) (within-formed (save room) Lengths.largestImage room o tt)
@@ -300,4 +310,5 @@ load-written-by s (some p) = (omega arith, refl)
 pub load-written : (s o : Octets) → (hubLoad s o .answer ≤ 7) × (hubLoad s o .octets ≡ [])
 unfolding hubLoad loadMeaning badState
 load-written s o =
-    either {A = Result Octets} (λ r. (r .answer ≤ 7) × (r .octets ≡ [])) (eqb (length s) Lengths.state) (λ _. load-written-by s (load o)) (λ _. (omega arith, refl))
+    either {A = Result Octets} (λ r. (r .answer ≤ 7) × (r .octets ≡ [])) (eqb (length s) Lengths.state) (λ _. load-written-by s (load o))
+    (λ _. (omega arith, refl))
