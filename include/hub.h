@@ -2,13 +2,13 @@
  * The hub: steers up to four Bluetooth controllers, index 0 to 3, by the BlueZ management commands.
  *
  * The caller lends every buffer: the state, the packet or image, the reply. Each call returns one number that holds the answer and the count of
- * octets written to the reply; take it apart with hub_answer and hub_count. Octets of the reply past the count stay as they were.
+ * octets written to the reply; take it apart with hub_answer and hub_count. The reply buffer behind these octets is left alone.
  *
  * What the caller owes:
  *   - each length is the true length of its buffer;
  *   - a pointer is null only where its length is 0; it is then never used;
  *   - the buffers lent to one call do not overlap;
- *   - the state buffer is handed on from call to call as the last call left it, and nobody else writes it; start it with hub_load;
+ *   - the state buffer is written by these functions alone: each call is lent what the call before it left; start it with hub_load;
  *   - one call at a time on a state: none from a second thread or from an interrupt while another call on the same state runs.
  * Whatever else is passed is answered by a number, never by undefined behaviour: any octets in any buffer, buffers of any length, any index and
  * status. No buffer needs an alignment. The library keeps nothing between calls, so calls on different states may run at the same time.
@@ -41,14 +41,14 @@ extern "C" {
 #define HUB_IMAGE_MAX 16014u
 
 /* What a call answers. */
-#define HUB_DONE 0u         /* done: reply, then events; new state */
+#define HUB_DONE 0u         /* done: the reply and the events behind it are written, the state is the new one */
 #define HUB_STARTED 1u      /* started: the radio owes a report; the command is kept, nothing is written */
-#define HUB_REFUSED 2u      /* refused with a status: that one reply; state as it was */
-#define HUB_BAD_PACKET 3u   /* packet under 6 octets, or its length field is wrong */
-#define HUB_SMALL_BUFFER 4u /* reply buffer under HUB_REPLY_MIN (hub_save: under HUB_IMAGE_MAX) */
+#define HUB_REFUSED 2u      /* refused: one reply, which tells the status; state as it was, here and below */
+#define HUB_BAD_PACKET 3u   /* the packet has no whole header, or another length than its header says */
+#define HUB_SMALL_BUFFER 4u /* the reply buffer is shorter than HUB_REPLY_MIN (hub_save: than HUB_IMAGE_MAX) */
 #define HUB_BAD_STATE 5u    /* the lent state is not well formed */
-#define HUB_BAD_ARGUMENT 6u /* plug, unplug, report or clock argument wrong */
-#define HUB_BAD_IMAGE 7u    /* image not acceptable (hub_load) */
+#define HUB_BAD_ARGUMENT 6u /* a wrong argument, of hub_plug, hub_unplug, hub_report or hub_clock */
+#define HUB_BAD_IMAGE 7u    /* hub_load does not take the image */
 
 /* The answer, one of the numbers above. */
 static inline unsigned hub_answer(uint64_t result)
@@ -105,8 +105,8 @@ static inline int hub_next_frame(const uint8_t *reply, size_t count, size_t *pos
 uint64_t hub_command(uint8_t *state, size_t state_len, const uint8_t *packet, size_t packet_len, uint8_t *reply, size_t reply_len);
 
 /*
- * The radio reports on the command under way at an index: status 0 lets it act and writes its reply and events, 0x01 to 0x14 drops it and writes
- * Command Status with that status. Answers 0, or 6 where nothing is under way or the status is above 0x14, 4 or 5.
+ * The radio reports on the command under way at an index: status 0 lets it act and writes its reply and events, 0x01 to 0x14 ends it and writes
+ * a Command Status that tells the status. Answers 0, or 6 if no command is under way there or the status is above 0x14, 4 or 5.
  */
 uint64_t hub_report(uint8_t *state, size_t state_len, uint64_t index, uint64_t status, uint8_t *reply, size_t reply_len);
 
@@ -118,14 +118,14 @@ uint64_t hub_clock(uint8_t *state, size_t state_len, uint32_t reading, uint8_t *
 
 /*
  * A controller is plugged in at an index; the address has 6 octets, lowest first, all zero where it has no public address. Writes Index Added.
- * Answers 0, or 6 for an index above 3 or present, an address not 6 octets long, supported bits above 15, neither bit 7 nor bit 9, or bit 7 with a
- * zero address, 4 or 5.
+ * Answers 0, or 6 if the index is taken or above 3, the address has not 6 octets, a supported bit above 15 is set, neither BR/EDR (bit 7) nor LE (bit 9)
+ * is supported, or BR/EDR is and the address is zero, 4 or 5.
  */
 uint64_t hub_plug(uint8_t *state, size_t state_len, uint64_t index, const uint8_t *address, size_t address_len, uint8_t version,
                   uint16_t manufacturer, uint32_t supported, uint8_t *reply, size_t reply_len);
 
 /*
- * The controller at an index is gone. Writes Command Status Invalid Index for a command under way there, then Index Removed.
+ * The controller at an index is gone. A command under way there is told Invalid Index by Command Status; behind that comes Index Removed.
  * Answers 0, or 6 for an absent index, 4 or 5.
  */
 uint64_t hub_unplug(uint8_t *state, size_t state_len, uint64_t index, uint8_t *reply, size_t reply_len);
@@ -134,8 +134,8 @@ uint64_t hub_unplug(uint8_t *state, size_t state_len, uint64_t index, uint8_t *r
 uint64_t hub_save(const uint8_t *state, size_t state_len, uint8_t *reply, size_t reply_len);
 
 /*
- * Makes a state from an image; the six octets 00 00 00 06 01 00 make a fresh one. The state buffer may hold anything before; it is written only if the
- * whole image is acceptable. Answers 0, 5 for a state buffer of another length, or 7.
+ * Makes the state that an image describes; the six octets 00 00 00 06 01 00 make a fresh one. What the state buffer held does not matter; it is written
+ * only if the whole image is acceptable. Answers 0, 5 for a state buffer of another length, or 7.
  */
 uint64_t hub_load(uint8_t *state, size_t state_len, const uint8_t *image, size_t image_len);
 

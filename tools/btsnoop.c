@@ -6,8 +6,8 @@
  * The file is of the kind that Linux writes (datalink type 2001, Linux Monitor) and holds what a Linux laptop's trace of its management sockets would:
  * each client is a control channel with its cookie; a reply goes to the client that sent the command, also where a report or an unplug brings it
  * later; an event goes to every open client, one record for each, but Device Blocked, Unblocked, Unpaired, Added and Removed not to the client that
- * sent the command (document 001: "only be sent to management sockets other than the one through which the command was sent"). Packets that are no
- * management packets (the hub answers them 3) are left out, as on Linux, and so are events while no client may have them; both are counted.
+ * sent the command (001, Device Blocked Event and the other four). Packets that are no management packets (the hub answers them 3) are left out, as on
+ * Linux, and so are events while no client may have them; both are counted.
  */
 #include <errno.h>
 #include <inttypes.h>

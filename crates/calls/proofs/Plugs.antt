@@ -21,8 +21,8 @@ use Rattle.layout.specs.Places.{Ready, emptied, openAt, placeOf, presentAt, put
 use Rattle.layout.specs.Reads.{absent-controller, present-controller}
 use Rattle.layout.specs.Open.{open-nothing, open-command}
 use Rattle.replies.specs.Answers.{Gives}
-use Rattle.replies.specs.declared.Answer.{Answer}
-use Rattle.replies.specs.declared.Answer.the-variants.{Done, BadArgument}
+use Rattle.model.specs.declared.Answer.{Answer}
+use Rattle.model.specs.declared.Answer.the-variants.{Done, BadArgument}
 use Rattle.replies.proofs.Laws.{gives-written, length-event, then}
 use Rattle.outcomes.specs.Outcomes.{ended}
 use Rattle.outcomes.specs.Endings.{ends-silent, ends-done}
@@ -43,7 +43,7 @@ event-bare d d′ at code i src w = w
 
 -- 2. Unplug -------------------------------------------------------------------------------------------------------------------------------------
 
--- 6 for "unplug of an absent index"
+-- no controller is there to unplug: 6 (01, What a call answers)
 pub unplug-absent : (s : Octets) (i : ℕ) (d : Octets) (r : Answer) → stateOk s ≡ true → presentAt s i ≡ false → r ≡ BadArgument
     → Gives (laidOut (unplugged (decode s) i (unplugOut (decode s .plain) i (controllerAt (decode s .plain) i)))) r d d s
 unfolding unplugOut unplugged ended
@@ -104,7 +104,7 @@ module _ (s : Octets) (i : ℕ) (f : Hardware) (d : Octets) (r : Answer) (ok : s
   plug-present e n = rw (present-controller s i (ready s i ok e)) (bad-argument s d badArgument r ok refl n)
 
   module _ (gone : presentAt s i ≡ false) where
-    -- 6 for "an index above 3"
+    -- the index is no place for a controller: 6 (01, What a call answers)
     pub plug-above : 3 < i → r ≡ BadArgument → Gives (ended s (plugOut (decode s .plain) i f (controllerAt (decode s .plain) i))) r d d s
     plug-above l n = rw (absent-controller s i gone) (bad-argument s d (plugOut (decode s .plain) i f none) r ok (plug-false (decode s .plain) i f (rw (le-ltb i 4 (omega arith)))) n)
 
@@ -112,7 +112,7 @@ module _ (s : Octets) (i : ℕ) (f : Hardware) (d : Octets) (r : Answer) (ok : s
     pub plug-unfit : hardwareOk f ≡ false → r ≡ BadArgument → Gives (ended s (plugOut (decode s .plain) i f (controllerAt (decode s .plain) i))) r d d s
     plug-unfit e n = rw (absent-controller s i gone) (bad-argument s d (plugOut (decode s .plain) i f none) r ok (plug-false (decode s .plain) i f (rw e (and-false (ltb i 4)))) n)
 
-    -- 6 for "an address not 6 octets long"
+    -- the address has too few octets or too many: 6 (01, What a call answers)
     pub plug-short : (length (f .publicAddress) ≡ 6 → ⊥) → r ≡ BadArgument → Gives (ended s (plugOut (decode s .plain) i f (controllerAt (decode s .plain) i))) r d d s
     plug-short e n = plug-unfit (not-six f e) n
 

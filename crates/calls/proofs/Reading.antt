@@ -27,8 +27,8 @@ use Rattle.layout.specs.Kept.{controller-decoded, controller-ready, host-fine}
 use Rattle.rules.specs.Effects.{settingsTimer, withSettings}
 use Rattle.rules.proofs.Ties.{tick-only}
 use Rattle.replies.specs.Answers.{Gives}
-use Rattle.replies.specs.declared.Answer.{Answer}
-use Rattle.replies.specs.declared.Answer.the-variants.{Done, BadArgument}
+use Rattle.model.specs.declared.Answer.{Answer}
+use Rattle.model.specs.declared.Answer.the-variants.{Done, BadArgument}
 use Rattle.replies.proofs.Laws.{length-new-settings, then}
 use Rattle.outcomes.specs.Outcomes.{ended}
 use Rattle.outcomes.specs.Endings.{ends-done}
@@ -130,7 +130,7 @@ module _ (s : Octets) (step i place : ℕ) (d d′ s′ : Octets) (g : Ready s i
 
 -- 2. All four -------------------------------------------------------------------------------------------------------------------------------------
 
--- the model answers 6 for "a clock step of 2^31 or more"
+-- the model answers 6 where the step is at least half the clock's range (01, What a call answers)
 out-late : (p : PlainHub) (reading : ℕ) → 2147483648 ≤ stepOf (p .clock) reading → clockOut p reading ≡ badArgument
 unfolding clockOut
 out-late p reading h = rw (le-leb 2147483648 (stepOf (p .clock) reading) h, clockOut)
@@ -141,7 +141,7 @@ out-done : (p : PlainHub) (reading : ℕ) → stepOf (p .clock) reading < 214748
 unfolding clockOut
 out-done p reading h = rw (lt-leb 2147483648 (stepOf (p .clock) reading) h, clockOut)
 
--- a step of half the range or more
+-- over the lent state: a step so long is refused
 pub clock-late : (s : Octets) (last step reading : ℕ) (d : Octets) (r : Answer) → stateOk s ≡ true → last ≡ decode s .plain .clock → step ≡ stepOf last reading → 2147483648 ≤ step → r ≡ BadArgument
     → Gives (ended s (clockOut (decode s .plain) reading)) r d d s
 clock-late s last step reading d r ok el es h n =

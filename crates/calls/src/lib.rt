@@ -14,8 +14,8 @@ ghost use Rattle.replies.specs.Answers.{Gives};
 ghost use Rattle.outcomes.specs.Outcomes.{ended};
 ghost use Rattle.calls.specs.Given.{hardwareGiven};
 ghost use Rattle.calls.specs.Ticks.{Ticked};
+use model::Answer;
 use model::Hardware;
-use replies::Answer;
 
 // An event that tells an index and nothing else, 6 octets.
 fn index_event(reply: &mut [u8], at: usize, code: u64, index: u64)
@@ -26,7 +26,7 @@ fn index_event(reply: &mut [u8], at: usize, code: u64, index: u64)
     replies::event_part(reply, at, code, index, &nothing, 0, 0);
 }
 
-// Unplugs the controller at an index: Invalid Index for a command under way, then Index Removed, and the index is empty.
+// Unplugs the controller at an index: the command under way there is told Invalid Index, Index Removed comes behind, and the index is empty.
 pub fn unplug(state: &mut [u8], index: u64, reply: &mut [u8]) -> Answer
     requires { ⌜ (stateOk (now state) ≡ true) × (length (now state) ≡ 16116) × (1024 ≤ length (now reply)) ⌝ }
     ensures { λ r. ⌜ Gives (laidOut (unplugged (decode (now (state .entry))) index (unplugOut (decode (now (state .entry)) .plain) index (controllerAt (decode (now (state .entry)) .plain) index)))) r (now (reply .entry)) (now (reply .exit)) (now (state .exit)) ⌝ }

@@ -30,14 +30,14 @@ hintsOf t = joinedByOr 16 (entries t)
 abbrev pub classWith : ℕ → Octets
 classWith hints = 0 ∷ 0 ∷ hints ∷ []
 
--- Class Of Device Changed, "only on change"
+-- Class Of Device Changed, if the hints changed (01, Commands, paragraph on events)
 unfoldable pub changedClass : ℕ → ℕ → ℕ → Octets
 changedClass index old new = elim (eqb old new) [ true ↦ [] | false ↦ event 0x0007 index (classWith new) ]
 
--- what Add UUID and Remove UUID write when they act: they "return the class", and "events follow the reply"
+-- what Add UUID and Remove UUID write when they act: a reply with the class (01, Commands, 0x0010), then the event (paragraph on events)
 unfoldable pub classReply : ℕ → ℕ → ℕ → ℕ → Octets
 classReply index code old new = commandComplete index code 0 (classWith new) ++ changedClass index old new
 
--- the values of Remove Device: "type 0 to 2; zero with another type: Invalid Parameters"
+-- the values of Remove Device: one of three types, and a zero address, which stands for all, only as a BR/EDR address (01, Commands, 0x0034)
 unfoldable pub removalChecks : Octets → List Check
 removalChecks ps = (ltb 2 (octet ps 6) ⇒ addressTypeAbove2) ∷ (allZero (take 6 ps) && not (eqb (octet ps 6) 0) ⇒ addressZeroNotBredr) ∷ []

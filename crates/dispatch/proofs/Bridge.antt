@@ -21,8 +21,8 @@ use Rattle.model.specs.Proof.Tests.{no-way, equal, and-true}
 use Rattle.octets.specs.Parts.{writeAt}
 use Rattle.layout.specs.Places.{Ready, presentAt}
 use Rattle.replies.specs.Answers.{Gives}
-use Rattle.replies.specs.declared.Answer.{Answer}
-use Rattle.replies.specs.declared.Answer.the-variants.{Refused}
+use Rattle.model.specs.declared.Answer.{Answer}
+use Rattle.model.specs.declared.Answer.the-variants.{Refused}
 use Rattle.outcomes.specs.Outcomes.{general, served, contended, dispatched, ended}
 use Rattle.outcomes.specs.Endings.{ends-refused}
 use Rattle.outcomes.specs.Routes.{route-unknown, route-general, route-immediate, route-immediate-absent, route-radio, route-radio-absent}
@@ -165,7 +165,7 @@ pub rule-07 : rule 0x07 ≡ some (radio setConnectable)
 unfolding rule find rows
 rule-07 = refl
 
--- Set Bondable is never Busy: it is done "always at once"
+-- Set Bondable is never Busy: it waits for no radio (01, Commands, 0x0009)
 pub rule-09 : rule 0x09 ≡ some (immediate setBondable)
 unfolding rule find rows
 rule-09 = refl
@@ -215,7 +215,7 @@ pub rule-27 : rule 0x27 ≡ some (immediate unblockDevice)
 unfolding rule find rows
 rule-27 = refl
 
--- Set Static Address can be Busy, "house for 0x002B"
+-- Set Static Address can be Busy, a rule of 01's own (01, Commands, paragraph on settings)
 pub rule-2B : rule 0x2B ≡ some (radio setStaticAddress)
 unfolding rule find rows
 rule-2B = refl

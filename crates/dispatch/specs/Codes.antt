@@ -116,7 +116,7 @@ outside code (y ∷ ys) xs w e =
     go false q r m = r
     go true q r m = no-way (sym (rw (← equal code y q) at m) ∙ e)
 
--- a code that is neither general nor a controller's has no rule: "every code not here is unknown"
+-- a code that is neither general nor a controller's has no rule: it is unknown (01, Commands)
 pub rule-unknown : (code : ℕ) → member code generalCodes ≡ false → member code controllerCodes ≡ false → rule code ≡ none
 unfolding rule codesOf rows within member generalCodes controllerCodes settingsCodes keyCodes deviceCodes informationCodes
 rule-unknown code g c =

@@ -8,7 +8,7 @@ ghost use Rattle.layout.specs.Places.{Ready};
 ghost use Rattle.replies.specs.Answers.{Gives};
 ghost use Rattle.outcomes.specs.Outcomes.{dispatched};
 ghost use Rattle.dispatch.specs.Codes.{member, settingsCodes, keyCodes, deviceCodes, informationCodes, controllerCodes};
-use replies::Answer;
+use model::Answer;
 
 // Whether a code is that of a settings command.
 fn is_settings(code: u64) -> bool

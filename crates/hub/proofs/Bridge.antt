@@ -12,8 +12,8 @@ use Rattle.model.specs.Hub.{command, report, clock, plug, unplug, save, finishe
 use Rattle.model.specs.Layout.{decode}
 use Rattle.model.specs.Meanings.{stateOk, laidOut, meaning}
 use Rattle.replies.specs.Answers.{Gives}
-use Rattle.replies.specs.declared.Answer.{Answer}
-use Rattle.replies.specs.declared.Answer.the-variants.{BadPacket, SmallBuffer}
+use Rattle.model.specs.declared.Answer.{Answer}
+use Rattle.model.specs.declared.Answer.the-variants.{BadPacket, SmallBuffer}
 use Rattle.outcomes.specs.Outcomes.{ended, dispatched, reported}
 use Rattle.outcomes.specs.Endings.{ends-silent}
 use Rattle.outcomes.specs.Routes.{command-small, command-bad, command-whole, report-small, report-whole, clock-small, clock-whole, plug-small, plug-whole, unplug-small, unplug-whole, save-small, save-whole}
@@ -25,11 +25,11 @@ small s d ok = ends-silent s d noRoom SmallBuffer ok refl refl refl refl
 
 -- 1. A command ----------------------------------------------------------------------------------------------------------------------------------
 
--- 4 for "reply buffer under 1,024 octets"
+-- a reply buffer too short for a command is 4 (01, What a call answers)
 pub command-no-room : (s p d : Octets) (room : ℕ) → stateOk s ≡ true → room < 1024 → Gives (meaning s (command room p)) SmallBuffer d d s
 command-no-room s p d room ok l = rw (command-small s room p ok l) (small s d ok)
 
--- 3 for "packet under 6 octets, or length field unequal to the octets after the header"
+-- a packet without a whole header, or with another length than its header says, is 3 (01, What a call answers)
 pub command-no-packet : (s p d : Octets) (room : ℕ) → stateOk s ≡ true → 1024 ≤ room → packetOk p ≡ false → Gives (meaning s (command room p)) BadPacket d d s
 unfolding octetsOf stateOf answerOf
 command-no-packet s p d room ok l e = rw (command-bad s room p ok l e) (ends-silent s d badPacket BadPacket ok refl refl refl refl)
@@ -78,7 +78,7 @@ pub unplug-done : (s d d′ s′ : Octets) (room i : ℕ) (r : Answer) → state
     → Gives (laidOut (unplugged (decode s) i (unplugOut (decode s .plain) i (controllerAt (decode s .plain) i)))) r d d′ s′ → Gives (meaning s (unplug room i)) r d d′ s′
 unplug-done s d d′ s′ room i r ok l k = rw (unplug-whole s room i ok l) k
 
--- 4 for "save: under 16,014"
+-- a reply buffer too short for the longest image is 4 (01, What a call answers)
 pub save-no-room : (s d : Octets) (room : ℕ) → stateOk s ≡ true → room < 16014 → Gives (meaning s (save room)) SmallBuffer d d s
 save-no-room s d room ok l = rw (save-small s room ok l) (small s d ok)
 

@@ -11,9 +11,9 @@ use borrow.Author.Tests.{le-leb, lt-leb}
 use Rattle.model.specs.Octets.{Octets, u16}
 use Rattle.model.specs.Hub.{packetOk}
 use Rattle.model.specs.Proof.Tests.{and-true}
-use Rattle.replies.specs.Answers.{numberOf}
-use Rattle.replies.specs.declared.Answer.{Answer}
-use Rattle.replies.specs.declared.Answer.the-variants.{Done, Started, Refused, BadPacket, SmallBuffer, BadState, BadArgument, BadImage}
+use Rattle.model.specs.Answers.{numberOf}
+use Rattle.model.specs.declared.Answer.{Answer}
+use Rattle.model.specs.declared.Answer.the-variants.{Done, Started, Refused, BadPacket, SmallBuffer, BadState, BadArgument, BadImage}
 
 -- a packet with a header is whole if its length field says so
 pub framed-is : (p : Octets) → 6 ≤ length p → eqb (u16 p 4) (length p - 6) ≡ packetOk p

@@ -8,17 +8,18 @@ use lib.ListN.{length, drop}
 use Rattle.model.specs.Octets.{Octets}
 use Rattle.model.specs.Hub.{Call, Result}
 use Rattle.model.specs.Meanings.{stateOk, badState, meaning}
-use Rattle.model.specs.Proof.Room.{notSave, room-state}
-use Rattle.replies.specs.Answers.{Gives, numberOf, countOf}
-use Rattle.replies.specs.declared.Answer.{Answer}
-use Rattle.replies.specs.declared.Answer.the-variants.{BadState}
+use Rattle.model.specs.Theorems.{no-reply-longer, room-most}
+use Rattle.model.specs.Answers.{numberOf, countOf}
+use Rattle.replies.specs.Answers.{Gives}
+use Rattle.model.specs.declared.Answer.{Answer}
+use Rattle.model.specs.declared.Answer.the-variants.{BadState}
 
 -- an answer and its count in one number: answer + 256 x count
 unfoldable pub packed : Answer → ℕ
 packed a = numberOf a + 256 * countOf a
 
--- The number returned is that of the model's result o with the count of its octets; the reply buffer `before` has become `after`, with "octets past
--- that count as they were"; the state is `left`.
+-- The number returned is that of the model's result o with the count of its octets; the reply buffer `before` has become `after`, with these octets at
+-- its front and the rest untouched (01, What a call answers); the state is `left`.
 pub record Returns (o : Result Octets) (r : ℕ) (before after left : Octets) : Type 0 where
   pub number : r ≡ o .answer + 256 * length (o .octets)
   pub reply : after ≡ o .octets ++ drop (length (o .octets)) before
@@ -34,12 +35,6 @@ pub gives-bad : (s : Octets) (c : Call) (r : Answer) (d : Octets) → stateOk s 
 unfolding meaning badState
 gives-bad s c r d e n = rw (e, meaning, n) (record { answer = refl; count = refl; reply = refl; state = refl })
 
--- no answer's count is longer than the buffer it was written to allows
-pub count-short : (o : Result Octets) (a : Answer) (before after left : Octets) (n : ℕ) → Gives o a before after left → length (o .octets) ≤ n → countOf a ≤ n
-count-short o a before after left n g l = rw (g .count) l
-
--- the bound of every call but save
-pub count-call : (s : Octets) (c : Call) (a : Answer) (before after left : Octets) → notSave c ≡ true → Gives (meaning s c) a before after left → countOf a ≤ 16014
-count-call s c a before after left n g =
-    let l : length (meaning s c .octets) ≤ 1024 = room-state s c n in
-    count-short (meaning s c) a before after left 16014 g (omega arith)
+-- no call's count is longer than the largest image
+pub count-call : (s : Octets) (c : Call) (a : Answer) (before after left : Octets) → Gives (meaning s c) a before after left → countOf a ≤ 16014
+count-call s c a before after left g = rw (g .count) (omega (arith, no-reply-longer s c, room-most c))

@@ -4,9 +4,10 @@ ghost use Prim.Native.Nat.{_≤_};
 ghost use lib.ListN.{length};
 ghost use Rattle.model.specs.Hub as M;
 ghost use Rattle.model.specs.Meanings.{meaning, hubCommand, hubReport, hubClock, hubPlug, hubUnplug, hubSave, hubLoad};
-ghost use Rattle.replies.specs.Answers.{Gives, countOf};
+ghost use Rattle.model.specs.Answers.{countOf};
+ghost use Rattle.replies.specs.Answers.{Gives};
 ghost use Rattle.hub.specs.Entries.{packed, Returns};
-use replies::Answer;
+use model::Answer;
 
 // Whether a packet has a header, and as many octets behind it as the header says.
 fn framed(packet: &[u8]) -> bool

@@ -34,8 +34,8 @@ use Rattle.layout.specs.Tables.{table-at}
 use Rattle.outcomes.specs.Outcomes.{ended}
 use Rattle.outcomes.specs.Endings.{ends-done}
 use Rattle.replies.specs.Answers.{Gives}
-use Rattle.replies.specs.declared.Answer.{Answer}
-use Rattle.replies.specs.declared.Answer.the-variants.{Done}
+use Rattle.model.specs.declared.Answer.{Answer}
+use Rattle.model.specs.declared.Answer.the-variants.{Done}
 use Rattle.image.specs.Images.{fixedImage, image-parts, numbersImage}
 use Rattle.replies.proofs.Laws.{then}
 
@@ -194,7 +194,7 @@ module _ (s : Octets) (i : ℕ) (ready : Ready s i) (d₀ : Octets) (p₀ : ℕ)
 
 -- 3. The fixed part, and a controller ---------------------------------------------------------------------------------------------------------------
 
--- version 1, manufacturer 2, supported 4, flags 4: the numbers have 11 octets
+-- the numbers of a controller's image have 1 + 2 + 4 + 4 = 11 octets
 pub length-numbers : (m : Settings) → length (numbersImage m) ≡ 11
 unfolding numbersImage be16 be32
 length-numbers m = refl

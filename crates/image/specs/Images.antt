@@ -7,11 +7,11 @@ use Rattle.model.specs.Octets.{Octets, be16, be32, joined}
 use Rattle.model.specs.State.{Controller, flag, settingsOf}
 use Rattle.model.specs.Image.{controllerImage, flagsOf, tableImage}
 
--- "flags 4 (only bits 1, 4, 9)", of the settings
+-- the flags of an image, from the settings: connectable, bondable, Low Energy (01, The image)
 unfoldable pub flagsIn : Settings → ℕ
 flagsIn m = flag (m .radio .connectable) 2 + flag (m .host .bondable) 16 + flag (m .radio .lowEnergy) 512
 
--- version 1, manufacturer 2, supported 4, flags 4
+-- the numbers of a controller's image, 11 octets: version, manufacturer, supported settings, flags (01, The image)
 unfoldable pub numbersImage : Settings → Octets
 numbersImage m = m .radio .hardware .version ∷ (be16 (m .radio .hardware .manufacturer) ++ (be32 (m .radio .hardware .supported) ++ be32 (flagsIn m)))
 

@@ -1,4 +1,4 @@
-// The image: what save writes of a state and load takes. Numbers are big-endian here; addresses, names and records keep packet order.
+// The image: what save writes of a state and load takes. Numbers stand high octet first; addresses, names and records stand as in packets.
 ghost use mathlib.Core.Path.{_≡_};
 ghost use mathlib.Core.Bool.{true};
 ghost use Prim.Native.Nat.{_+_, _*_, _≤_, _<_};
@@ -16,8 +16,8 @@ ghost use Rattle.octets.specs.Parts.{writeAt};
 ghost use Rattle.outcomes.specs.Outcomes.{ended};
 ghost use Rattle.replies.specs.Answers.{Gives};
 ghost use Rattle.table.specs.Slots.{tableAt};
+use model::Answer;
 use model::Settings;
-use replies::Answer;
 
 // Writes the image of a table at a place: how many records it has, and the records in slot order. Gives the place behind it.
 pub fn save_records(state: &[u8], at: usize, size: usize, out: &mut [u8], place: usize) -> usize

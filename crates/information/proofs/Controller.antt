@@ -25,8 +25,8 @@ use Rattle.layout.specs.Places.{Ready, controllerOf, placeOf, putController, ta
 use Rattle.layout.specs.Reads.{name-at, present-slot}
 use Rattle.layout.specs.Tables.{table-at, table-fits}
 use Rattle.replies.specs.Answers.{Gives}
-use Rattle.replies.specs.declared.Answer.{Answer}
-use Rattle.replies.specs.declared.Answer.the-variants.{Done, Refused}
+use Rattle.model.specs.declared.Answer.{Answer}
+use Rattle.model.specs.declared.Answer.the-variants.{Done, Refused}
 use Rattle.replies.proofs.Laws.{length-complete, then}
 use Rattle.outcomes.specs.Outcomes.{served}
 use Rattle.outcomes.specs.Endings.{served-length, served-done}
@@ -78,7 +78,7 @@ put-back : (s : Octets) (i : ℕ) → Ready s i → s ≡ encode (putController 
 unfolding putController withController withHost
 put-back s i g = state-back s (g .ok) ∙ rw (← present-slot s i (g .here), set-getD)
 
--- "0x0004 [0]": without parameters the length is right
+-- 0x0004 has no parameters: then the length is right (01, Commands, 0x0004)
 size-true : (ps : Octets) → length ps ≡ 0 → readInformation .size ps ≡ true
 unfolding readInformation sized
 size-true ps e = eq-eqb (length ps) 0 e

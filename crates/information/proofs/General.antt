@@ -21,8 +21,8 @@ use Rattle.octets.specs.Parts.{writeAt, write-split, write-right, write-front}
 use Rattle.layout.specs.Places.{presentAt}
 use Rattle.layout.specs.Reads.{present-slot, absent-slot}
 use Rattle.replies.specs.Answers.{Gives}
-use Rattle.replies.specs.declared.Answer.{Answer}
-use Rattle.replies.specs.declared.Answer.the-variants.{Done, Refused}
+use Rattle.model.specs.declared.Answer.{Answer}
+use Rattle.model.specs.declared.Answer.the-variants.{Done, Refused}
 use Rattle.outcomes.specs.Outcomes.{general}
 use Rattle.outcomes.specs.Endings.{ends-refused, ends-done}
 use Rattle.information.specs.General.{Reply, listed}
@@ -80,12 +80,12 @@ module _ (i code : ℕ) (ps body d d′ : Octets) (r : Answer) (big : 1024 ≤ l
 
 -- 2. Constant octets ----------------------------------------------------------------------------------------------------------------------------
 
--- "version 1, revision 10", the revision in two octets
+-- the version in one octet, the revision in two (01, Commands, 0x0001)
 pub version-is : (p : PlainHub) → readVersion p ≡ 1 ∷ 10 ∷ 0 ∷ []
 unfolding readVersion le16
 version-is p = refl
 
--- "counts, then codes and events, each ascending": 19 codes and 10 events
+-- how many commands and events there are, 19 and 10, and which (01, Commands, 0x0002)
 pub commands-is : (p : PlainHub) → readCommands p
     ≡ 19 ∷ 0 ∷ 10 ∷ 0
     ∷ 0x03 ∷ 0 ∷ 0x04 ∷ 0 ∷ 0x05 ∷ 0 ∷ 0x06 ∷ 0 ∷ 0x07 ∷ 0 ∷ 0x09 ∷ 0 ∷ 0x0D ∷ 0 ∷ 0x0F ∷ 0 ∷ 0x10 ∷ 0 ∷ 0x11 ∷ 0

@@ -19,8 +19,8 @@ use Rattle.octets.specs.Parts.{part, placeAt, writeAt}
 use Rattle.layout.specs.Places.{Ready, controllerOf, placeOf, putController, sizes}
 use Rattle.layout.specs.Reads.{name-at}
 use Rattle.replies.specs.Answers.{Gives}
-use Rattle.replies.specs.declared.Answer.{Answer}
-use Rattle.replies.specs.declared.Answer.the-variants.{Done, Refused}
+use Rattle.model.specs.declared.Answer.{Answer}
+use Rattle.model.specs.declared.Answer.the-variants.{Done, Refused}
 use Rattle.replies.proofs.Laws.{length-complete, length-event, then}
 use Rattle.outcomes.specs.Outcomes.{served}
 use Rattle.outcomes.specs.Endings.{served-length, served-status, served-done}

@@ -10,7 +10,7 @@ use Rattle.model.specs.Layout.{decode}
 use Rattle.model.specs.Meanings.{stateOk}
 use Rattle.layout.specs.Places.{presentAt}
 use Rattle.replies.specs.Answers.{Gives}
-use Rattle.replies.specs.declared.Answer.{Answer}
+use Rattle.model.specs.declared.Answer.{Answer}
 use Rattle.outcomes.specs.Outcomes.{general}
 
 -- index i, if it holds a controller

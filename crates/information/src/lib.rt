@@ -14,8 +14,8 @@ ghost use Rattle.information.specs.Controller.{informationHead, informat
 ghost use Rattle.model.specs.Immediate.{readInformation, setLocalName};
 ghost use Rattle.layout.specs.Places.{Ready, controllerOf};
 ghost use Rattle.outcomes.specs.Outcomes.{served};
+use model::Answer;
 use model::Hardware;
-use replies::Answer;
 
 // What Read Commands returns: the counts, 19 and 10, then the codes of the commands and of the events, two octets each.
 const COMMANDS: [u8; 62] = [

@@ -24,8 +24,8 @@ use Rattle.table.specs.Slots.{length-loaded, sized-loaded}
 use Rattle.layout.specs.Places.{Ready, controllerOf, putController, tablePlace}
 use Rattle.layout.specs.Tables.{table-fits, table-stored}
 use Rattle.replies.specs.Answers.{Gives}
-use Rattle.replies.specs.declared.Answer.{Answer}
-use Rattle.replies.specs.declared.Answer.the-variants.{Done, Refused}
+use Rattle.model.specs.declared.Answer.{Answer}
+use Rattle.model.specs.declared.Answer.the-variants.{Done, Refused}
 use Rattle.outcomes.specs.Outcomes.{served}
 use Rattle.outcomes.specs.Endings.{served-length, served-status, served-done}
 use Rattle.lists.specs.Lists.{valueChecks}

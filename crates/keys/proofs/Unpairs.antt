@@ -28,8 +28,8 @@ use Rattle.layout.specs.Tables.{table-at, table-fine, table-long, table-sized, 
 use Rattle.layout.specs.Kept.{host-fine, controller-ready, controller-back, controller-decoded}
 use Rattle.records.proofs.Laws.{size-least}
 use Rattle.replies.specs.Answers.{Gives}
-use Rattle.replies.specs.declared.Answer.{Answer}
-use Rattle.replies.specs.declared.Answer.the-variants.{Done, Refused}
+use Rattle.model.specs.declared.Answer.{Answer}
+use Rattle.model.specs.declared.Answer.the-variants.{Done, Refused}
 use Rattle.replies.proofs.Laws.{then, length-event}
 use Rattle.outcomes.specs.Outcomes.{served}
 use Rattle.outcomes.specs.Endings.{served-length, served-address, served-done}

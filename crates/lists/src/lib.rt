@@ -1,4 +1,4 @@
-// A list of key records in a packet, read record by record through a reader that keeps the caller's packet and the place reached.
+// A list of key records in a packet, read record by record through a reader: the packet that was lent, and how far it is read.
 // The reader holds a reference, so its functions are proved by hand and only pass on: what is read is `key_at`'s, on slice and place, and
 // the loop is `all_fine`'s.
 ghost use mathlib.Core.Path.{_≡_};

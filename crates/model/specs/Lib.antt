@@ -1,5 +1,10 @@
+pub mod Statuses
+pub mod Codes
+pub mod Events
+pub mod Lengths
 pub mod Octets
 pub mod State
+pub mod Answers
 pub mod Reasons
 pub mod Tables
 pub mod Rules
@@ -10,6 +15,7 @@ pub mod Hub
 pub mod WellFormed
 pub mod Layout
 pub mod Meanings
+pub mod Written
 pub mod Demand3
 pub mod Examples
 pub mod EasyErrors

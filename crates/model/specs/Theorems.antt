@@ -1,21 +1,25 @@
 -- The theorems, over the octets of the lent state, each by name. The proofs are in Proof/.
-use Prim.Native.Nat.{ℕ, _≤_}
+use Prim.Native.Nat.{ℕ, _^_, _≤_, _<_}
+use native.Mathlib.Omega.{arith}
 use mathlib.Core.Path.{_≡_, refl, sym, ap, _∙_}
 use mathlib.Core.Bool.{true, false}
-use mathlib.Core.List.{[]}
+use mathlib.Core.List.{[], map}
 use mathlib.Core.Logic.{_↔_}
 use mathlib.Core.Option.{some}
-use lib.ListN.{length}
+use lib.ListN.{length, drop}
 use lib.Dec.{eqb, leb, ltb, lit≤}
+use Rattle.model.specs.Lengths as Lengths
 use Rattle.model.specs.Octets.{Octets, bytes, open-octets}
 use Rattle.model.specs.State.{Hub, PlainHub, idle, open-state}
 use Rattle.model.specs.Reasons.{open-reasons}
 use Rattle.model.specs.Tables.{open-tables}
+use Rattle.model.specs.Commands.{Row, commandCodes, rows}
 use Rattle.model.specs.Image.{image, load, open-image, reloadedHub}
-use Rattle.model.specs.Hub.{Call, Outcome, Result, answerOf, call, callPlain, keep, octetsOf, save, stateOf, within}
+use Rattle.model.specs.Hub.{Call, Outcome, Result, answerOf, call, callPlain, clock, command, keep, octetsOf, plug, report, save, stateOf, unplug, within}
 use Rattle.model.specs.WellFormed.{callWide, open-wellformed, plainOk, wellFormed}
-use Rattle.model.specs.Layout.{decode, encode, stateLength}
+use Rattle.model.specs.Layout.{decode, encode}
 use Rattle.model.specs.Meanings.{badState, hubLoad, hubSave, laidOut, loadMeaning, loadedInto, meaning, stateOk}
+use Rattle.model.specs.Written.{OneReply, Written, roomOf}
 use Rattle.model.specs.Demand3.{Demand3}
 use Rattle.model.specs.Examples.{dualHardware, fullController, fullHub, fullTable, records}
 use Rattle.model.specs.Proof.Decode.{decode-encode}
@@ -26,6 +30,7 @@ use Rattle.model.specs.Proof.Room.{notSave, room-state}
 use Rattle.model.specs.Proof.RoundTrip.{image-most, load-image}
 use Rattle.model.specs.Proof.SavedAgain.{saved-again}
 use Rattle.model.specs.Proof.Tests.{and-true, either}
+use Rattle.model.specs.Proof.Written.{load-written, one-reply, silent, state-written, to-seven}
 
 -- DEMAND 3, whole: for any image that load takes into any buffer and any list of calls
 pub demand-3 : Demand3
@@ -64,17 +69,18 @@ refused-load-changes-nothing = load-refused-same
 -- The image -----------------------------------------------------------------------------------------------------------------------------------
 
 -- save of a hub, with room for the largest image
-save-call : (h : Hub) (room : ℕ) → ltb room 16014 ≡ false → call h (save room) ≡ record { answer = 0; octets = image (h .plain); state = h }
+save-call : (h : Hub) (room : ℕ) → ltb room Lengths.largestImage ≡ false → call h (save room) ≡ record { answer = 0; octets = image (h .plain); state = h }
 unfolding call keep callPlain within answerOf octetsOf stateOf
 save-call h room r = rw (r, within)
 
 -- save on the state of a well-formed hub, with that room
-save-is : (h : Hub) (room : ℕ) → wellFormed h ≡ true → ltb room 16014 ≡ false → hubSave (encode h) room ≡ record { answer = 0; octets = image (h .plain); state = encode h }
+save-is : (h : Hub) (room : ℕ) → wellFormed h ≡ true → ltb room Lengths.largestImage ≡ false
+    → hubSave (encode h) room ≡ record { answer = 0; octets = image (h .plain); state = encode h }
 unfolding hubSave laidOut
 save-is h room e r = meaning-is h (save room) e ∙ ap laidOut (save-call h room r)
 
 -- An accepted image is saved again octet for octet.
-pub accepted-image-saved-again : (buffer o : Octets) (room : ℕ) → bytes o ≡ true → hubLoad buffer o .answer ≡ 0 → ltb room 16014 ≡ false
+pub accepted-image-saved-again : (buffer o : Octets) (room : ℕ) → bytes o ≡ true → hubLoad buffer o .answer ≡ 0 → ltb room Lengths.largestImage ≡ false
     → hubSave (hubLoad buffer o .state) room ≡ record { answer = 0; octets = o; state = hubLoad buffer o .state }
 unfolding idle
 accepted-image-saved-again buffer o room b e r =
@@ -83,30 +89,34 @@ accepted-image-saved-again buffer o room b e r =
     rw (t .state, save-is (idle (t .hub)) room (idle-ok (t .hub) k) r, saved-again o (t .hub) b (t .loads))
 
 -- load of an acceptable image
-load-is : (buffer o : Octets) (p : PlainHub) → eqb (length buffer) stateLength ≡ true → load o ≡ some p → hubLoad buffer o ≡ record { answer = 0; octets = []; state = encode (idle p) }
+load-is : (buffer o : Octets) (p : PlainHub) → eqb (length buffer) Lengths.state ≡ true → load o ≡ some p
+    → hubLoad buffer o ≡ record { answer = 0; octets = []; state = encode (idle p) }
 unfolding hubLoad loadMeaning loadedInto
 load-is buffer o p n l = rw (n, loadMeaning, l)
 
--- A saved image loads to the state with power, discoverable, timers, clock and open commands cleared and slots closed up.
-pub saved-image-loads : (s buffer : Octets) (room : ℕ) → stateOk s ≡ true → ltb room 16014 ≡ false → eqb (length buffer) stateLength ≡ true
+-- A saved image loads to the state that `reloadedHub` says: power and discoverable off, no timer, clock 0, nothing open, the records in the lowest slots.
+pub saved-image-loads : (s buffer : Octets) (room : ℕ) → stateOk s ≡ true → ltb room Lengths.largestImage ≡ false → eqb (length buffer) Lengths.state ≡ true
     → hubLoad buffer (hubSave s room .octets) ≡ record { answer = 0; octets = []; state = encode (idle (reloadedHub (decode s .plain))) }
 unfolding wellFormed
 saved-image-loads s buffer room e r n =
     let w = state-well s e in
-    let i : hubSave s room .octets ≡ image (decode s .plain) = ap (λ (x : Octets). hubSave x room .octets) (state-back s e) ∙ ap (λ (x : Result Octets). x .octets) (save-is (decode s) room w r) in
-    rw i (load-is buffer (image (decode s .plain)) (reloadedHub (decode s .plain)) n (load-image (decode s .plain) (and-true (plainOk (decode s .plain)) _ w .0)))
+    let i : hubSave s room .octets ≡ image (decode s .plain) = ap (λ (x : Octets). hubSave x room .octets) (state-back s e)
+    ∙ ap (λ (x : Result Octets). x .octets) (save-is (decode s) room w r) in
+    rw i (load-is buffer (image (decode s .plain)) (reloadedHub (decode s .plain)) n
+    (load-image (decode s .plain) (and-true (plainOk (decode s .plain)) _ w .0)))
 
 -- save of a well-formed hub writes at most 16,014 octets
-save-length : (h : Hub) (room : ℕ) → wellFormed h ≡ true → length (call h (save room) .octets) ≤ 16014
+save-length : (h : Hub) (room : ℕ) → wellFormed h ≡ true → length (call h (save room) .octets) ≤ Lengths.largestImage
 unfolding call keep callPlain within octetsOf wellFormed
 save-length h room e =
-    either {A = Outcome} (λ o. length (octetsOf o) ≤ 16014) (ltb room 16014) (λ _. lit≤ tt) (λ _. image-most (h .plain) (and-true (plainOk (h .plain)) _ e .0))
+    either {A = Outcome} (λ o. length (octetsOf o) ≤ Lengths.largestImage) (ltb room Lengths.largestImage) (λ _. lit≤ tt)
+    (λ _. image-most (h .plain) (and-true (plainOk (h .plain)) _ e .0))
 
 -- No image is longer than 16,014 octets, whatever is lent and whatever is loaded.
-pub no-image-longer : (s : Octets) (room : ℕ) → length (hubSave s room .octets) ≤ 16014
+pub no-image-longer : (s : Octets) (room : ℕ) → length (hubSave s room .octets) ≤ Lengths.largestImage
 unfolding hubSave meaning laidOut badState
 no-image-longer s room =
-    either {A = Result Octets} (λ r. length (r .octets) ≤ 16014) (stateOk s) (λ e. save-length (decode s) room (state-well s e)) (λ _. lit≤ tt)
+    either {A = Result Octets} (λ r. length (r .octets) ≤ Lengths.largestImage) (stateOk s) (λ e. save-length (decode s) room (state-well s e)) (λ _. lit≤ tt)
 
 -- the hub with all tables full is well formed
 full-valid : plainOk fullHub ≡ true
@@ -114,19 +124,69 @@ unfolding open-octets open-state open-reasons open-tables open-image open-wellfo
 full-valid = refl
 
 -- its image has 16,014 octets
-full-length : length (image fullHub) ≡ 16014
+full-length : length (image fullHub) ≡ Lengths.largestImage
 unfolding open-octets open-state open-reasons open-tables open-image dualHardware records fullTable fullController fullHub
 full-length = refl
 
 -- One is that long: that of four controllers with all tables full.
-pub one-image-that-long : (stateOk (encode (idle fullHub)) ≡ true) × (length (hubSave (encode (idle fullHub)) 16014 .octets) ≡ 16014)
+pub one-image-that-long : (stateOk (encode (idle fullHub)) ≡ true)
+    × (length (hubSave (encode (idle fullHub)) Lengths.largestImage .octets) ≡ Lengths.largestImage)
 unfolding idle
 one-image-that-long =
     let w = idle-ok fullHub full-valid in
-    (encode-ok (idle fullHub) w, ap (λ (x : Result Octets). length (x .octets)) (save-is (idle fullHub) 16014 w refl) ∙ full-length)
+    (encode-ok (idle fullHub) w, ap (λ (x : Result Octets). length (x .octets)) (save-is (idle fullHub) Lengths.largestImage w refl) ∙ full-length)
+
+-- Commands -----------------------------------------------------------------------------------------------------------------------------------
+
+-- Read Management Supported Commands lists the codes of the table of commands from the third on, and no other.
+pub commands-listed : map (λ (r : Row). r .0) (drop 2 rows) ≡ commandCodes
+unfolding rows commandCodes
+commands-listed = refl
+
+-- What is written ----------------------------------------------------------------------------------------------------------------------------
+
+-- Every call writes what its answer lets it write: nothing, one status reply, or its reply and events.
+pub answer-says-what-is-written : (s : Octets) (c : Call) → Written c (meaning s c .answer) (meaning s c .octets)
+answer-says-what-is-written = state-written
+
+-- A call answered 1 or 3 to 7 writes nothing.
+pub silent-answers : (s : Octets) (c : Call) → (meaning s c .answer ≡ 0 → ⊥) → (meaning s c .answer ≡ 2 → ⊥) → meaning s c .octets ≡ []
+silent-answers s c = silent c _ _ (state-written s c)
+
+-- Only a command is answered 2, and it writes exactly one status reply, with the code and index of its packet.
+pub refused-writes-one-reply : (s : Octets) (c : Call) → meaning s c .answer ≡ 2 → OneReply c (meaning s c .octets)
+refused-writes-one-reply s c = one-reply c _ _ (state-written s c)
+
+-- Every answer is one of 0 to 7.
+pub answers-are-eight : (s : Octets) (c : Call) → meaning s c .answer ≤ 7
+answers-are-eight s c = to-seven c _ _ (state-written s c)
+
+-- Load answers one of 0 to 7 and writes nothing but the state.
+pub load-writes-nothing : (buffer image : Octets) → (hubLoad buffer image .answer ≤ 7) × (hubLoad buffer image .octets ≡ [])
+load-writes-nothing = load-written
 
 -- Room ----------------------------------------------------------------------------------------------------------------------------------------
 
--- No call but save writes more than 1,024 octets.
-pub no-reply-longer : (s : Octets) (c : Call) → notSave c ≡ true → length (meaning s c .octets) ≤ 1024
-no-reply-longer = room-state
+-- No call writes more than the reply buffer that it asks for: 1,024 octets, save 16,014.
+pub no-reply-longer : (s : Octets) (c : Call) → length (meaning s c .octets) ≤ roomOf c
+unfolding roomOf notSave hubSave
+no-reply-longer s (command room packet) = room-state s (command room packet) refl
+no-reply-longer s (report room i status) = room-state s (report room i status) refl
+no-reply-longer s (clock room reading) = room-state s (clock room reading) refl
+no-reply-longer s (plug room i f) = room-state s (plug room i f) refl
+no-reply-longer s (unplug room i) = room-state s (unplug room i) refl
+no-reply-longer s (save room) = no-image-longer s room
+
+-- No call asks for more than 16,014 octets.
+pub room-most : (c : Call) → roomOf c ≤ Lengths.largestImage
+unfolding roomOf
+room-most (command room packet) = omega arith
+room-most (report room i status) = omega arith
+room-most (clock room reading) = omega arith
+room-most (plug room i f) = omega arith
+room-most (unplug room i) = omega arith
+room-most (save room) = omega arith
+
+-- The count of octets written fits 24 bits.
+pub count-fits : (s : Octets) (c : Call) → length (meaning s c .octets) < 2 ^ 24
+count-fits s c = omega (arith, no-reply-longer s c, room-most c)

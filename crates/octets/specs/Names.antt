@@ -1,4 +1,4 @@
--- Names in octets. Document 01: "The used part of a name is handed out as that part of the caller's octets, up to the first zero."
+-- Names in octets: a name is used as far as its first zero octet, and that part is lent on, not copied (01, Commands, paragraph on loads).
 use mathlib.Core.Path.{_≡_, refl, ap}
 use Prim.Native.Nat.{ℕ, _≤_}
 use native.Mathlib.Omega.{arith}

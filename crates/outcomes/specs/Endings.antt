@@ -11,21 +11,20 @@ use Rattle.model.specs.Octets.{Octets, commandComplete, commandStatus, le32}
 use Rattle.model.specs.State.{Controller, Host, PlainHub, OpenCommand, withController, withHost, currentSettings, settingsOf}
 use Rattle.model.specs.Reasons.{Reason, statusOf, firstOf, lengthWrong}
 use Rattle.model.specs.Rules.{refuse, done, ImmediateRule, RadioRule, newSettings}
-use Rattle.model.specs.Hub.{Outcome, finished, refused, anyway, keep, withOpen, answerOf, octetsOf, stateOf, refusalOctets, byStatus, refusalForm, immediateAt, immediateDone, radioAt, radioBeforeBusy, radioAfterBusy, acted}
+use Rattle.model.specs.Hub.{Outcome, finished, refused, anyway, keep, withOpen, answerOf, octetsOf, stateOf, refusalOctets, byStatus, busyOr, commandOut, refusalForm, immediateAt, immediateDone, radioAt, radioBeforeBusy, radioAfterBusy, acted}
 use Rattle.model.specs.Layout.{encode, decode}
 use Rattle.model.specs.Meanings.{stateOk, laidOut}
 use Rattle.model.specs.Proof.Demand3.{state-back}
 use Rattle.octets.specs.Parts.{writeAt, write-front}
 use Rattle.layout.specs.Places.{Ready, controllerOf, openAt, putController}
-use Rattle.replies.specs.Answers.{Gives, numberOf, countOf}
-use Rattle.replies.specs.declared.Answer.{Answer}
-use Rattle.replies.specs.declared.Answer.the-variants.{Done, Started, Refused}
-use Rattle.outcomes.specs.Outcomes.{ended, served, judged, contended}
+use Rattle.model.specs.Answers.{numberOf, countOf}
+use Rattle.replies.specs.Answers.{Gives}
+use Rattle.model.specs.declared.Answer.{Answer}
+use Rattle.model.specs.declared.Answer.the-variants.{Done, Started, Refused}
+use Rattle.outcomes.specs.Outcomes.{ended, served, contended}
 use Rattle.model.specs.Proof.Room.{length-complete, length-status}
 
--- 1. Lengths ----------------------------------------------------------------------------------------------------------------------------------
-
--- 2. Any outcome ------------------------------------------------------------------------------------------------------------------------------
+-- 1. Any outcome ------------------------------------------------------------------------------------------------------------------------------
 
 -- nothing is written, nothing changes
 pub ends-silent : (s d : Octets) (o : Outcome) (r : Answer) → stateOk s ≡ true → octetsOf o ≡ [] → stateOf (decode s .plain) o ≡ decode s .plain → numberOf r ≡ answerOf o → countOf r ≡ 0
@@ -47,7 +46,7 @@ pub ends-done : (s out : Octets) (p : PlainHub) (n : ℕ) (d d′ s′ : Octets)
 unfolding ended laidOut keep answerOf octetsOf stateOf
 ends-done s out p n d d′ s′ r m e l w k = rw m (record { answer = refl; count = sym e; reply = w ∙ write-front d out (omega arith); state = k })
 
--- 3. Commands that are never Busy ---------------------------------------------------------------------------------------------------------------
+-- 2. Commands that are never Busy ---------------------------------------------------------------------------------------------------------------
 
 -- parameters of the right length: the rule's own act decides
 at-good : (p : PlainHub) (i code : ℕ) (ps : Octets) (q : ImmediateRule) (c : Controller) → q .size ps ≡ true
@@ -95,7 +94,7 @@ module _ (s : Octets) (i code : ℕ) (ps : Octets) (q : ImmediateRule) (d d′ :
       rw (at-good (decode s .plain) i code ps q (controllerOf s i) z, e)
       (ends-done s (commandComplete i code 0 out ++ evs) (withController (decode s .plain) i (some (withHost (controllerOf s i) h))) n d d′ s′ r m l (omega arith) w k)
 
--- 4. Settings commands that can be Busy ---------------------------------------------------------------------------------------------------------
+-- 3. Settings commands that can be Busy ---------------------------------------------------------------------------------------------------------
 
 -- parameters of another length are refused, whatever is under way
 radio-length : (p : PlainHub) (i code : ℕ) (ps : Octets) (r : RadioRule) (c : Controller) → eqb (length ps) (r .size) ≡ false
@@ -116,20 +115,20 @@ module _ (s : Octets) (i code : ℕ) (ps : Octets) (u : RadioRule) (d d′ : Oct
 
   -- the parameters have another length
   pub contended-length : eqb (length ps) (u .size) ≡ false → r ≡ Refused 9 → d′ ≡ writeAt d 0 (commandStatus i code 0x0D) → Gives (contended s i code ps u) r d d′ s
-  unfolding contended judged statusOf ended
+  unfolding contended commandOut busyOr statusOf ended
   contended-length e n w = rw (radio-length (decode s .plain) i code ps u (controllerOf s i) e) (ends-refused s i code lengthWrong d d′ r (given .ok) big n w)
 
   -- refused before Busy
   pub contended-early : eqb (length ps) (u .size) ≡ true → (x : Reason) → firstOf (u .beforeBusy (here .radio) ps) ≡ some x → r ≡ Refused 9
       → d′ ≡ writeAt d 0 (commandStatus i code (statusOf x)) → Gives (contended s i code ps u) r d d′ s
-  unfolding contended judged radioBeforeBusy ended
+  unfolding contended commandOut busyOr radioBeforeBusy ended
   contended-early z x e n w =
       rw (radio-good (decode s .plain) i code ps u (controllerOf s i) z, e) (ends-refused s i code x d d′ r (given .ok) big n w)
 
   -- Busy
   pub contended-busy : eqb (length ps) (u .size) ≡ true → firstOf (u .beforeBusy (here .radio) ps) ≡ none → (o : OpenCommand) → openAt s i ≡ some o → r ≡ Refused 9
       → d′ ≡ writeAt d 0 (commandStatus i code 0x0A) → Gives (contended s i code ps u) r d d′ s
-  unfolding contended radioBeforeBusy radioAfterBusy judged laidOut
+  unfolding contended radioBeforeBusy radioAfterBusy commandOut busyOr laidOut
   contended-busy z e o eo n w = rw (radio-good (decode s .plain) i code ps u (controllerOf s i) z, e, eo) (go (firstOf (u .afterBusy (here .radio) ps)))
     where
       busy : Gives (record { answer = 2; octets = commandStatus i code 0x0A; state = encode (decode s) }) r d d′ s
@@ -137,14 +136,14 @@ module _ (s : Octets) (i code : ℕ) (ps : Octets) (u : RadioRule) (d d′ : Oct
           let l = length-status i code 0x0A in
           rw n (record { answer = refl; count = sym l; reply = w ∙ write-front d (commandStatus i code 0x0A) (omega arith); state = state-back s (given .ok) })
 
-      go : (y : Option Reason) → Gives (laidOut (judged (decode s) i code ps (radioAfterBusy (decode s .plain) i code ps u here y) (some o))) r d d′ s
+      go : (y : Option Reason) → Gives (laidOut (commandOut (decode s) i code ps (radioAfterBusy (decode s .plain) i code ps u here y) (some o))) r d d′ s
       go none = busy
       go (some y) = busy
 
   -- Rejected
   pub contended-late : eqb (length ps) (u .size) ≡ true → firstOf (u .beforeBusy (here .radio) ps) ≡ none → openAt s i ≡ none → (x : Reason)
       → firstOf (u .afterBusy (here .radio) ps) ≡ some x → r ≡ Refused 9 → d′ ≡ writeAt d 0 (commandStatus i code (statusOf x)) → Gives (contended s i code ps u) r d d′ s
-  unfolding contended judged radioBeforeBusy radioAfterBusy ended
+  unfolding contended commandOut busyOr radioBeforeBusy radioAfterBusy ended
   contended-late z e eo x f n w =
       rw (radio-good (decode s .plain) i code ps u (controllerOf s i) z, e, f, eo) (ends-refused s i code x d d′ r (given .ok) big n w)
 
@@ -152,7 +151,7 @@ module _ (s : Octets) (i code : ℕ) (ps : Octets) (u : RadioRule) (d d′ : Oct
   pub contended-started : eqb (length ps) (u .size) ≡ true → firstOf (u .beforeBusy (here .radio) ps) ≡ none → openAt s i ≡ none
       → firstOf (u .afterBusy (here .radio) ps) ≡ none → u .waits (here .radio) ps ≡ true → r ≡ Started → (s′ : Octets)
       → s′ ≡ encode (withOpen (decode s) i (some (record { code = code; params = ps }))) → d′ ≡ d → Gives (contended s i code ps u) r d d′ s′
-  unfolding contended judged radioBeforeBusy radioAfterBusy laidOut
+  unfolding contended commandOut busyOr radioBeforeBusy radioAfterBusy laidOut
   contended-started z e eo f w n s′ k t =
       rw (radio-good (decode s .plain) i code ps u (controllerOf s i) z, e, f, eo, w, n) (record { answer = refl; count = refl; reply = t; state = k })
 
@@ -161,7 +160,7 @@ module _ (s : Octets) (i code : ℕ) (ps : Octets) (u : RadioRule) (d d′ : Oct
       → firstOf (u .afterBusy (here .radio) ps) ≡ none → u .waits (here .radio) ps ≡ false → (s′ out : Octets) (n : ℕ) → r ≡ Done n
       → out ≡ commandComplete i code 0 (le32 (currentSettings (settingsOf (u .effect here ps)))) ++ newSettings i here (u .effect here ps)
       → length out ≡ n → n ≤ 1024 → d′ ≡ writeAt d 0 out → s′ ≡ encode (putController (decode s) i (u .effect here ps)) → Gives (contended s i code ps u) r d d′ s′
-  unfolding contended judged radioBeforeBusy radioAfterBusy acted putController ended
+  unfolding contended commandOut busyOr radioBeforeBusy radioAfterBusy acted putController ended
   contended-done z e eo f w s′ out n m eq l b wr k =
       rw (radio-good (decode s .plain) i code ps u (controllerOf s i) z, e, f, eo, w)
       (rw eq at (ends-done s out (withController (decode s .plain) i (some (u .effect here ps))) n d d′ s′ r m l (omega arith) wr k))

@@ -1,14 +1,12 @@
 -- What a call comes to over the lent state, part by part: the definitions that the contracts of the commands and calls cite. Each is the model's own
 -- word at the controller that stands there, laid out.
 use Prim.Native.Nat.{ℕ}
-use mathlib.Core.Bool.{true, false}
-use mathlib.Core.List.{[]}
-use mathlib.Core.Option.{Option, none, some}
-use Rattle.model.specs.Octets.{Octets, commandStatus}
-use Rattle.model.specs.State.{PlainHub, OpenCommand, Hub}
+use mathlib.Core.Option.{some}
+use Rattle.model.specs.Octets.{Octets}
+use Rattle.model.specs.State.{PlainHub}
 use Rattle.model.specs.Rules.{ImmediateRule, RadioRule}
 use Rattle.model.specs.Commands.{rule}
-use Rattle.model.specs.Hub.{Outcome, Verdict, anyway, unlessBusy, Result, keep, withOpen, immediateAt, radioAt, generalOut, byRule, reportOut}
+use Rattle.model.specs.Hub.{Outcome, Result, keep, commandOut, immediateAt, radioAt, generalOut, byRule, reportOut}
 use Rattle.model.specs.Layout.{decode}
 use Rattle.model.specs.Meanings.{laidOut}
 use Rattle.layout.specs.Places.{controllerOf, openAt}
@@ -25,20 +23,13 @@ general s i code ps f = ended s (generalOut (decode s .plain) i code ps f)
 unfoldable pub served : Octets → ℕ → ℕ → Octets → ImmediateRule → Result Octets
 served s i code ps q = ended s (immediateAt (decode s .plain) i code ps q (some (controllerOf s i)))
 
--- a verdict at an index where x is under way: Busy, or started, or done at once
-unfoldable pub judged : Hub → ℕ → ℕ → Octets → Verdict → Option OpenCommand → Result Hub
-judged h i code ps (anyway o) x = keep h o
-judged h i code ps (unlessBusy o w) (some x) = record { answer = 2; octets = commandStatus i code 0x0A; state = h }
-judged h i code ps (unlessBusy o true) none = record { answer = 1; octets = []; state = withOpen h i (some (record { code = code; params = ps })) }
-judged h i code ps (unlessBusy o false) none = keep h o
-
 -- a settings command that can be Busy, to a present index
 unfoldable pub contended : Octets → ℕ → ℕ → Octets → RadioRule → Result Octets
-contended s i code ps r = laidOut (judged (decode s) i code ps (radioAt (decode s .plain) i code ps r (some (controllerOf s i))) (openAt s i))
+contended s i code ps r = laidOut (commandOut (decode s) i code ps (radioAt (decode s .plain) i code ps r (some (controllerOf s i))) (openAt s i))
 
 -- a command by its parts, with whatever is under way
 unfoldable pub dispatched : Octets → ℕ → ℕ → Octets → Result Octets
-dispatched s i code ps = laidOut (judged (decode s) i code ps (byRule (decode s .plain) i code ps (rule code)) (openAt s i))
+dispatched s i code ps = laidOut (commandOut (decode s) i code ps (byRule (decode s .plain) i code ps (rule code)) (openAt s i))
 
 -- a report to an index, with room for a reply
 unfoldable pub reported : Octets → ℕ → ℕ → Result Octets

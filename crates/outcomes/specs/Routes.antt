@@ -11,13 +11,13 @@ use Rattle.model.specs.Reasons.{codeUnknown, controllerAbsent}
 use Rattle.model.specs.Rules.{ImmediateRule, RadioRule, immediate, radio}
 use Rattle.model.specs.Rules.{general as generalRule}
 use Rattle.model.specs.Commands.{rule}
-use Rattle.model.specs.Hub.{Call, command, report, clock, plug, unplug, save, Outcome, finished, refused, badPacket, noRoom, Verdict, anyway, unlessBusy, call, callPlain, commandOut, busyOr, underWay, openOf, indexOf, codeOf, paramsOf, packetOk, verdict, byRule, byStatus, immediateAt, radioAt, within, clockOut, plugOut, unplugOut, unplugged}
+use Rattle.model.specs.Hub.{Call, command, report, clock, plug, unplug, save, Outcome, finished, refused, badPacket, noRoom, anyway, call, callPlain, commandOut, underWay, indexOf, codeOf, paramsOf, packetOk, verdict, byRule, byStatus, immediateAt, radioAt, within, clockOut, plugOut, unplugOut, unplugged}
 use Rattle.model.specs.Image.{image}
 use Rattle.model.specs.Layout.{decode}
 use Rattle.model.specs.Meanings.{stateOk, laidOut, meaning}
 use Rattle.layout.specs.Places.{Ready, openAt, presentAt}
 use Rattle.layout.specs.Reads.{present-controller, absent-controller}
-use Rattle.outcomes.specs.Outcomes.{ended, general, served, judged, contended, dispatched, reported}
+use Rattle.outcomes.specs.Outcomes.{ended, general, served, contended, dispatched, reported}
 
 -- 1. Answer 5 -----------------------------------------------------------------------------------------------------------------------------------
 
@@ -44,18 +44,6 @@ verdict-good : (p : PlainHub) (room : ℕ) (packet : Octets) → 1024 ≤ room �
 unfolding verdict
 verdict-good p room packet l e = rw (le-ltb room 1024 l, verdict, e)
 
--- a verdict of a packet is judged by the packet's parts
-judged-is : (h : Hub) (packet : Octets) (v : Verdict) (x : Option OpenCommand) → underWay h (indexOf packet) ≡ x
-    → commandOut h packet v ≡ judged h (indexOf packet) (codeOf packet) (paramsOf packet) v x
-unfolding commandOut judged busyOr openOf
-judged-is h packet (anyway o) x e = refl
-judged-is h packet (unlessBusy o w) x e = rw e (go w x)
-  where
-    go : (w : Bool) (x : Option OpenCommand) → busyOr h packet o w x ≡ judged h (indexOf packet) (codeOf packet) (paramsOf packet) (unlessBusy o w) x
-    go w (some y) = refl
-    go true none = refl
-    go false none = refl
-
 -- a reply buffer that is too short, a packet that is not whole, and the way on
 pub command-small : (s : Octets) (room : ℕ) (packet : Octets) → stateOk s ≡ true → room < 1024 → meaning s (command room packet) ≡ ended s noRoom
 unfolding call commandOut ended
@@ -72,27 +60,26 @@ pub command-whole : (s : Octets) (room : ℕ) (packet : Octets) → stateOk s �
 unfolding call dispatched openAt underWay
 command-whole s room packet ok l e =
     rw (meaning-well s (command room packet) ok, verdict-good (decode s .plain) room packet l e)
-    (ap laidOut (judged-is (decode s) packet (byRule (decode s .plain) (indexOf packet) (codeOf packet) (paramsOf packet) (rule (codeOf packet))) (openAt s (indexOf packet)) refl))
 
 -- by the rule of the code
 pub route-unknown : (s : Octets) (i code : ℕ) (ps : Octets) → rule code ≡ none → dispatched s i code ps ≡ ended s (refused (byStatus i code) codeUnknown)
-unfolding dispatched byRule judged ended
+unfolding dispatched byRule commandOut ended
 route-unknown s i code ps e = rw e
 
 -- a general command asks for no controller
 pub route-general : (s : Octets) (i code : ℕ) (ps : Octets) (f : PlainHub → Octets) → rule code ≡ some (generalRule f) → dispatched s i code ps ≡ general s i code ps f
-unfolding dispatched byRule judged ended general
+unfolding dispatched byRule commandOut ended general
 route-general s i code ps f e = rw e
 
 module _ (s : Octets) (i code : ℕ) (ps : Octets) (q : ImmediateRule) (known : rule code ≡ some (immediate q)) where
   -- a command that is never Busy is served by the controller at a present index
   pub route-immediate : Ready s i → dispatched s i code ps ≡ served s i code ps q
-  unfolding dispatched byRule judged served ended
+  unfolding dispatched byRule commandOut served ended
   route-immediate g = rw (known, present-controller s i g)
 
   -- to an absent index it is Invalid Index
   pub route-immediate-absent : presentAt s i ≡ false → dispatched s i code ps ≡ ended s (refused (byStatus i code) controllerAbsent)
-  unfolding dispatched byRule judged immediateAt ended
+  unfolding dispatched byRule commandOut immediateAt ended
   route-immediate-absent e = rw (known, absent-controller s i e)
 
 module _ (s : Octets) (i code : ℕ) (ps : Octets) (r : RadioRule) (known : rule code ≡ some (radio r)) where
@@ -103,7 +90,7 @@ module _ (s : Octets) (i code : ℕ) (ps : Octets) (r : RadioRule) (known : rule
 
   -- to an absent index it too is Invalid Index
   pub route-radio-absent : presentAt s i ≡ false → dispatched s i code ps ≡ ended s (refused (byStatus i code) controllerAbsent)
-  unfolding dispatched byRule judged radioAt ended
+  unfolding dispatched byRule commandOut radioAt ended
   route-radio-absent e = rw (known, absent-controller s i e)
 
 -- 3. The other calls --------------------------------------------------------------------------------------------------------------------------

@@ -148,7 +148,7 @@ module _ (s : Octets) (at : ℕ) where
   unfolding linkKeyRule octet
   link-key-is = rw (passes-cons, one-check, getD-part s at 25 6 (omega arith), getD-part s at 25 7 (omega arith), twice-not, not-ltb)
 
-  -- an LE address: type 1 or 2, and with type 2 a sixth octet of at least 0xC0
+  -- an LE address: public, or random and then static (01, Commands, paragraph on loads)
   pub le-address-is : (n : ℕ) → 7 ≤ n → passes (leAddressChecks (part s at n)) ≡ (eqb (getD s (at + 6) 0) 1 || eqb (getD s (at + 6) 0) 2) && not (eqb (getD s (at + 6) 0) 2 && not (leb 192 (getD s (at + 5) 0)))
   unfolding leAddressChecks staticRandom octet
   le-address-is n h = rw (passes-cons, one-check, getD-part s at n 6 (omega arith), getD-part s at n 5 (omega arith), twice-not)

@@ -1,5 +1,5 @@
 // The rules of the six tables' records, over records where they lie: at a place of a packet, of an image or of the lent state.
-// A table is known by its number, 0 to 5. "Slots from a place" are n slots of the table's record size, and slot j is in use if bit j of a
+// A table is known by its number, 0 to 5. Slots from a place on are n slots of the table's record size, and slot j is in use if bit j of a
 // word is set: a table of the lent state has its occupancy word and 32 slots, a list of n records the word of n ones.
 ghost use mathlib.Core.Path.{_≡_};
 ghost use Prim.Native.Nat.{_+_, _-_, _*_, _^_, _≤_, _<_};
@@ -49,7 +49,7 @@ fn uuid_ok(s: &[u8], at: usize) -> bool
     true
 }
 
-// A link key: address type 0, key type 0 to 8.
+// A link key: a BR/EDR address, and a key type of at most 8.
 fn link_key_ok(s: &[u8], at: usize) -> bool
     requires { ⌜ at + 25 ≤ length (now s) ⌝ }
     ensures { λ r. ⌜ r ≡ passes (T.linkKeyRule .checks (part (now (s .entry)) at 25)) ⌝ }
@@ -60,7 +60,7 @@ fn link_key_ok(s: &[u8], at: usize) -> bool
     s[at + 7] <= 8
 }
 
-// An address of a long term or identity key: type 1, or type 2 with a sixth octet of at least 0xC0.
+// An address of a long term or identity key: LE Public, or LE Random and then static, its sixth octet 0xC0 or more.
 fn le_address_ok(s: &[u8], at: usize) -> bool
     requires { ⌜ at + 7 ≤ length (now s) ⌝ }
     ensures { λ r. ⌜ r ≡ passes (T.leAddressChecks (part (now (s .entry)) at 7)) ⌝ }
@@ -74,7 +74,7 @@ fn le_address_ok(s: &[u8], at: usize) -> bool
     false
 }
 
-// A long term key: address, key type 0 to 4, master 0 or 1, size 7 to 16.
+// A long term key: an LE address, a key type of at most 4, Master as a flag, a key size from 7 to 16.
 fn long_term_key_ok(s: &[u8], at: usize) -> bool
     requires { ⌜ at + 36 ≤ length (now s) ⌝ }
     ensures { λ r. ⌜ r ≡ passes (T.longTermKeyRule .checks (part (now (s .entry)) at 36)) ⌝ }
@@ -102,7 +102,7 @@ fn identity_key_ok(s: &[u8], at: usize) -> bool
     le_address_ok(s, at)
 }
 
-// A blocked device: type 0 to 2, address not zero.
+// A blocked device: any address but zero, of one of the three types.
 fn blocked_ok(s: &[u8], at: usize) -> bool
     requires { ⌜ at + 7 ≤ length (now s) ⌝ }
     ensures { λ r. ⌜ r ≡ passes (T.blockedRule .checks (part (now (s .entry)) at 7)) ⌝ }
@@ -113,7 +113,7 @@ fn blocked_ok(s: &[u8], at: usize) -> bool
     s[at + 6] <= 2
 }
 
-// A device: type 0 to 2, action 0 to 2, address not zero; type 0 takes only action 1.
+// A device: the same, with one of three actions; a BR/EDR device has no other than 1.
 fn device_ok(s: &[u8], at: usize) -> bool
     requires { ⌜ at + 8 ≤ length (now s) ⌝ }
     ensures { λ r. ⌜ r ≡ passes (T.deviceRule .checks (part (now (s .entry)) at 8)) ⌝ }

@@ -13,8 +13,9 @@ use Rattle.model.specs.Octets.{Octets, le16, le32, event, commandComplete, comm
 use Rattle.model.specs.Hub.{Result}
 use Rattle.octets.specs.Parts.{writeAt, write-split, write-front}
 use Rattle.replies.specs.Frames.{eventHead, completeHead, changedEvent, settingsReply}
-use Rattle.replies.specs.Answers.{numberOf, countOf, Gives}
-use Rattle.replies.specs.declared.Answer.{Answer}
+use Rattle.model.specs.Answers.{numberOf, countOf}
+use Rattle.replies.specs.Answers.{Gives}
+use Rattle.model.specs.declared.Answer.{Answer}
 use Rattle.model.specs.Proof.Room.{length-le16, length-le32}
 
 -- LENGTHS -------------------------------------------------------------------------------------------------------------------------------------
@@ -127,7 +128,7 @@ settings-short i c old new = go (eqb old new)
 
 -- THE REPLY BUFFER ----------------------------------------------------------------------------------------------------------------------------
 
--- what was written at the front, and "octets past that count stay as they were": the field `reply` of Gives
+-- what was written at the front, and behind it the buffer as it was: the field `reply` of Gives
 pub gives-reply : (before after octets : Octets) → length octets ≤ length before → after ≡ writeAt before 0 octets → after ≡ octets ++ drop (length octets) before
 gives-reply before after octets h e = e ∙ write-front before octets h
 

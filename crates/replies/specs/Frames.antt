@@ -14,10 +14,10 @@ eventHead code index n = le16 code ++ (le16 index ++ le16 n)
 unfoldable pub completeHead : ℕ → ℕ → ℕ → ℕ → Octets
 completeHead index code status n = eventHead 0x0001 index (3 + n) ++ (le16 code ++ (status ∷ []))
 
--- "only on change for New Settings": of a controller whose Current_Settings were `old` and are `new`
+-- New Settings, if they changed: of a controller whose Current_Settings were `old` and are `new` (01, Commands, paragraph on events)
 unfoldable pub changedEvent : ℕ → ℕ → ℕ → Octets
 changedEvent index old new = elim (eqb old new) [ true ↦ [] | false ↦ event 0x0006 index (le32 new) ]
 
--- what a settings command writes when it acts: it "answers with Current_Settings", and "events follow the reply"
+-- what a settings command writes when it acts: a reply with Current_Settings (01, Commands, paragraph on settings), then the event (on events)
 unfoldable pub settingsReply : ℕ → ℕ → ℕ → ℕ → Octets
 settingsReply index code old new = commandComplete index code 0 (le32 new) ++ changedEvent index old new

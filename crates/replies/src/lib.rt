@@ -6,20 +6,9 @@ ghost use Rattle.model.specs.Octets.{le32, commandComplete, commandStatus};
 ghost use Rattle.model.specs.Octets as M;
 ghost use Rattle.octets.specs.Parts.{part, writeAt};
 ghost use Rattle.replies.specs.Frames as S;
-ghost use Rattle.replies.specs.Answers.{numberOf, countOf};
-ghost use Rattle.replies.specs.declared.Answer.the-variants.{Refused};
-
-// What a call answers; a count is that of the octets written.
-pub enum Answer {
-    Done(usize),
-    Started,
-    Refused(usize),
-    BadPacket,
-    SmallBuffer,
-    BadState,
-    BadArgument,
-    BadImage,
-}
+ghost use Rattle.model.specs.Answers.{numberOf, countOf};
+ghost use Rattle.model.specs.declared.Answer.the-variants.{Refused};
+use model::Answer;
 
 // The number of an answer.
 pub fn number(a: Answer) -> u64
@@ -168,7 +157,7 @@ pub fn refuse(reply: &mut [u8], index: u64, code: u64, status: u8) -> Answer
     Answer::Refused(9)
 }
 
-// An address command is refused by Command Complete with the received address and type, the first seven octets of its parameters.
+// An address command is refused by Command Complete, which echoes the first seven octets of its parameters, address and type.
 pub fn refuse_address(reply: &mut [u8], index: u64, code: u64, status: u8, ps: &[u8]) -> Answer
     requires { ⌜ (16 ≤ length (now reply)) × (7 ≤ length (now ps)) ⌝ }
     ensures { λ r. ⌜ (r ≡ Refused 16) × (now (reply .exit) ≡ writeAt (now (reply .entry)) 0 (commandComplete index code status (take 7 (now (ps .entry))))) ⌝ }

@@ -15,18 +15,18 @@ ghost use Rattle.model.specs.Layout.{decode, encode};
 ghost use Rattle.model.specs.Meanings.{stateOk};
 ghost use Rattle.layout.specs.Places.{Ready, controllerOf, openAt, presentAt, putController};
 ghost use Rattle.model.specs.Meanings.{hubLoad};
-ghost use Rattle.replies.specs.Answers.{countOf, numberOf};
+ghost use Rattle.model.specs.Answers.{countOf, numberOf};
 ghost use Rattle.restore.specs.Filling.{found, withTables};
 ghost use Rattle.restore.specs.Controllers.{imageSettings};
 ghost use Rattle.restore.specs.Loading.{accepted};
 ghost use Rattle.restore.specs.Accepting.{scans};
 ghost use Rattle.restore.specs.Checking.{behindOf, endAt, fixedOk, tablesFrom};
+use model::Answer;
 use model::Hardware;
 use model::HostSettings;
 use model::RadioSettings;
 use model::Settings;
 use model::Timer;
-use replies::Answer;
 
 // Fills the six tables of the controller at an index from those that lie at a place of the image. Gives the place behind them.
 fn fill_tables(state: &mut [u8], index: u64, image: &[u8], at: usize) -> usize

@@ -36,7 +36,7 @@ wait-test none (some y) w = refl
 wait-test none none true = refl
 wait-test none none false = refl
 
--- what "would now be started" asks beside the length is that the decision is to wait
+-- what a start asks beside the length is that the decision is to wait
 pub wait-is : (r : RadioRule) (x : RadioSettings) (ps : Octets) → (passes (r .beforeBusy x ps) && (passes (r .afterBusy x ps) && r .waits x ps)) ≡ isWait (decision r x ps)
 unfolding passes decision
 wait-is r x ps = wait-test (firstOf (r .beforeBusy x ps)) (firstOf (r .afterBusy x ps)) (r .waits x ps)

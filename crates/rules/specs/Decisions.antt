@@ -9,6 +9,9 @@ use lib.Dec.{eqb}
 use Rattle.model.specs.Octets.{Octets}
 use Rattle.model.specs.declared.RadioSettings.{RadioSettings}
 use Rattle.model.specs.declared.Settings.{Settings}
+use Rattle.model.specs.Answers.{numberOf}
+use Rattle.model.specs.declared.Answer.{Answer}
+use Rattle.model.specs.declared.Answer.the-variants.{Done, Started, Refused}
 use Rattle.model.specs.Reasons.{Reason, Check, statusOf, firstOf}
 use Rattle.model.specs.Rules.{RadioRule}
 use Rattle.model.specs.WellFormed.{addressed, settingsFit}
@@ -30,8 +33,8 @@ unfoldable pub beforeBusyOf : Decision → Option Reason → Decision
 beforeBusyOf d (some x) = Refuse (statusOf x)
 beforeBusyOf d none = d
 
--- "first that applies: values, Invalid Parameters; Not Supported; Not Powered; Busy; Rejected": a command with Refuse is refused even where
--- another is under way; one with Reject, Wait or Act is Busy there
+-- Values, support and power are checked before Busy, what is Rejected after it (01, Order inside a command): a command with Refuse is refused even
+-- where another is under way; one with Reject, Wait or Act is Busy there
 unfoldable pub decision : RadioRule → RadioSettings → Octets → Decision
 decision r x ps = beforeBusyOf (afterBusyOf (r .waits x ps) (firstOf (r .afterBusy x ps))) (firstOf (r .beforeBusy x ps))
 
@@ -41,14 +44,25 @@ pub record Fails (cs : List Check) (status : ℕ) : Type 0 where
   pub first : firstOf cs ≡ some reason
   pub told : statusOf reason ≡ status
 
--- a decision that waits
-unfoldable pub isWait : Decision → Bool
-isWait (Refuse s) = false
-isWait (Reject s) = false
-isWait Wait = true
-isWait Act = false
+-- the answer of each decision with nothing under way, where n octets are written: its number and count are the table's (01, What a call answers)
+abbrev pub decisionAnswer : ℕ → Decision → Answer
+decisionAnswer n (Refuse s) = Refused n
+decisionAnswer n (Reject s) = Refused n
+decisionAnswer n Wait = Started
+decisionAnswer n Act = Done n
 
--- "discoverable only if connectable; timer only if powered and discoverable; powered only with an address", of the settings alone
+-- the status of each: of a refusal the one it names, else 0, which is success
+abbrev pub decisionStatus : Decision → ℕ
+decisionStatus (Refuse s) = s
+decisionStatus (Reject s) = s
+decisionStatus Wait = 0
+decisionStatus Act = 0
+
+-- a decision that waits: the command is started
+unfoldable pub isWait : Decision → Bool
+isWait d = eqb (numberOf (decisionAnswer 0 d)) (numberOf Started)
+
+-- what the settings alone must keep: connectable for discoverable, power and discoverable for a timer, an address for power (01, The image, Well formed)
 unfoldable pub settingsOk : Settings → Bool
 settingsOk m =
     settingsFit (m .host .timer .discoverable) (m .radio .connectable) (eqb (m .host .timer .seconds) 0) (m .radio .powered) (addressed (m .radio))

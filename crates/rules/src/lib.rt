@@ -60,7 +60,7 @@ pub fn le_supported(f: Hardware) -> bool
     f.supported / 512 % 2 == 1
 }
 
-// Whether an address is zero, or its sixth octet at least 0xC0.
+// Whether an address is zero or static random: then its sixth octet is 0xC0 or more.
 pub fn static_address_ok(a: &[u8]) -> bool
     requires { ⌜ 6 ≤ length (now a) ⌝ }
     ensures { λ r. ⌜ r ≡ T.staticAddressOk (now (a .entry)) ⌝ }
@@ -280,7 +280,7 @@ pub fn with_bondable(m: Settings, b: bool) -> Settings
     }
 }
 
-// What Set Powered makes of the settings: off, discoverable ends if its timer runs.
+// What Set Powered makes of the settings: with power goes a discoverable that a timer limits.
 pub fn effect_powered(m: Settings, ps: &[u8]) -> Settings
     requires { ⌜ length (now ps) ≡ 1 ⌝ }
     ensures { λ d. ⌜ d ≡ settingsEffect setPowered m (now (ps .entry)) ⌝ }
@@ -305,7 +305,7 @@ pub fn effect_powered(m: Settings, ps: &[u8]) -> Settings
     d
 }
 
-// What Set Discoverable makes of the settings: 1 and 2 alike; timeout 0 leaves no timer.
+// What Set Discoverable makes of the settings: the same for 1 and 2; without a timeout no timer runs.
 pub fn effect_discoverable(m: Settings, ps: &[u8]) -> Settings
     requires { ⌜ length (now ps) ≡ 3 ⌝ }
     ensures { λ d. ⌜ d ≡ settingsEffect setDiscoverable m (now (ps .entry)) ⌝ }
@@ -317,7 +317,7 @@ pub fn effect_discoverable(m: Settings, ps: &[u8]) -> Settings
     with_timer(m, t)
 }
 
-// What Set Connectable makes of the settings: off also ends discoverable and its timer.
+// What Set Connectable makes of the settings: when it goes off, discoverable and the timer go too.
 pub fn effect_connectable(m: Settings, ps: &[u8]) -> Settings
     requires { ⌜ length (now ps) ≡ 1 ⌝ }
     ensures { λ d. ⌜ d ≡ settingsEffect setConnectable m (now (ps .entry)) ⌝ }
@@ -431,7 +431,7 @@ pub fn hardware_ok(f: Hardware) -> bool
     false
 }
 
-// The plug rules, Low Energy on where BR/EDR is unsupported, Low Energy or a static address only with LE support, and the static address rule.
+// Whether hardware and static address are valid, and Low Energy is on if it is all there is; where it is not supported it is off, with no static address.
 pub fn radio_ok(r: RadioSettings) -> bool
     ensures { λ q. ⌜ q ≡ radioOk r ⌝ }
 {
@@ -449,7 +449,7 @@ pub fn radio_ok(r: RadioSettings) -> bool
     false
 }
 
-// Discoverable only if connectable; a timer only if powered and discoverable; powered only with an address.
+// Whether discoverable has connectable, a timer has power and discoverable, and power has an address.
 pub fn settings_fit(m: Settings) -> bool
     ensures { λ q. ⌜ q ≡ settingsOk m ⌝ }
 {

@@ -24,8 +24,8 @@ use Rattle.layout.specs.Places.{Ready, controllerOf, placeOf, putController}
 use Rattle.layout.specs.Open.{open-nothing, open-command}
 use Rattle.replies.specs.Answers.{Gives}
 use Rattle.replies.specs.Frames.{settingsReply, changedEvent}
-use Rattle.replies.specs.declared.Answer.{Answer}
-use Rattle.replies.specs.declared.Answer.the-variants.{Done, Started, Refused}
+use Rattle.model.specs.declared.Answer.{Answer}
+use Rattle.model.specs.declared.Answer.the-variants.{Done, Started, Refused}
 use Rattle.replies.proofs.Laws.{settings-short}
 use Rattle.rules.specs.declared.Decision.{Decision}
 use Rattle.rules.specs.declared.Decision.the-variants.{Refuse, Reject, Wait, Act}

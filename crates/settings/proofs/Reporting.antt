@@ -28,8 +28,8 @@ use Rattle.layout.specs.Open.{open-nothing, open-command}
 use Rattle.layout.specs.Kept.{open-fine, opened-ready, opened-controller, opened-decoded}
 use Rattle.replies.specs.Answers.{Gives}
 use Rattle.replies.specs.Frames.{settingsReply}
-use Rattle.replies.specs.declared.Answer.{Answer}
-use Rattle.replies.specs.declared.Answer.the-variants.{Done, BadArgument}
+use Rattle.model.specs.declared.Answer.{Answer}
+use Rattle.model.specs.declared.Answer.the-variants.{Done, BadArgument}
 use Rattle.replies.proofs.Laws.{gives-written, settings-short}
 use Rattle.rules.specs.Effects.{withSettings, settingsEffect, OnlySettings}
 use Rattle.rules.proofs.Ties.{powered-only, discoverable-only, connectable-only, low-energy-only}

@@ -11,7 +11,7 @@ use Rattle.model.specs.Reasons.{firstOf}
 use Rattle.model.specs.Rules.{RadioRule}
 use Rattle.layout.specs.Places.{controllerOf}
 use Rattle.replies.specs.Answers.{Gives}
-use Rattle.replies.specs.declared.Answer.{Answer}
+use Rattle.model.specs.declared.Answer.{Answer}
 use Rattle.rules.specs.declared.Decision.{Decision}
 use Rattle.rules.specs.Decisions.{decision}
 use Rattle.rules.specs.Effects.{withSettings}

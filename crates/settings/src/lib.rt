@@ -13,14 +13,14 @@ ghost use Rattle.octets.specs.Parts.{writeAt};
 ghost use Rattle.layout.specs.Places.{Ready, controllerOf, placeOf, putController};
 ghost use Rattle.replies.specs.Answers.{Gives};
 ghost use Rattle.replies.specs.Frames.{settingsReply};
-ghost use Rattle.replies.specs.declared.Answer.the-variants.{Done};
+ghost use Rattle.model.specs.declared.Answer.the-variants.{Done};
 ghost use Rattle.rules.specs.declared.Decision.the-variants.{Wait};
 ghost use Rattle.rules.specs.Effects.{withSettings};
 ghost use Rattle.outcomes.specs.Outcomes.{contended, reported, served};
 ghost use Rattle.settings.specs.Follows.{Concludes, Contends};
 ghost use Rattle.settings.specs.Opens.{Makes};
+use model::Answer;
 use model::Settings;
-use replies::Answer;
 use rules::Decision;
 
 // The ways to end
@@ -46,7 +46,7 @@ fn apply(
 
 // Set Bondable
 
-// 0x0009 Set Bondable, always at once.
+// 0x0009 Set Bondable: it waits for no radio.
 pub fn set_bondable(state: &mut [u8], index: u64, ps: &[u8], reply: &mut [u8]) -> Answer
     requires { ⌜ Ready (now state) index × (1024 ≤ length (now reply)) ⌝ }
     ensures { λ r. ⌜ Gives (served (now (state .entry)) index 0x0009 (now (ps .entry)) setBondable) r (now (reply .entry)) (now (reply .exit)) (now (state .exit)) ⌝ }

@@ -112,7 +112,7 @@ pub fn release_all(s: &mut [u8], at: usize, size: usize)
     octets::zero_fill(s, at, 4 + size * 32);
 }
 
-// Loads the n records that lie in src from a place on, record k into slot k: what the table held before is gone.
+// Loads the n records that lie in src from a place on into the first n slots, in their order: what the table held before is gone.
 // The word is made in 64 bits, where n = 32 is no case of its own.
 pub fn load(s: &mut [u8], at: usize, size: usize, src: &[u8], from: usize, n: usize)
     requires { ⌜ (at + (4 + size * 32) ≤ length (now s)) × (n ≤ 32) × (from + size * n ≤ length (now src)) ⌝ }

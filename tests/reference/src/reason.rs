@@ -63,7 +63,7 @@ pub enum Reason {
     OnlyLowEnergy,
     /// A static address set while powered.
     Powered,
-    /// No key under this address and type.
+    /// The device has no key.
     NotPaired,
     /// The device is blocked already.
     AlreadyBlocked,
@@ -109,11 +109,11 @@ pub enum ArgumentFault {
     NoTransport,
     /// BR/EDR with a zero public address.
     NoPublicAddress,
-    /// A report where nothing is under way.
+    /// A report to an index without a command under way.
     NothingUnderWay,
     /// A report status above the last.
     ReportStatus,
-    /// A clock step of half the range or more.
+    /// A clock step that is too long.
     ClockStep,
 }
 

@@ -48,7 +48,7 @@ pub fn is_static_random(address: &Address) -> bool {
 pub struct Peer {
     /// The device's address.
     pub address: Address,
-    /// 0 BR/EDR, 1 LE Public, 2 LE Random in what is accepted.
+    /// One of the three types above, in what is accepted.
     pub address_type: u8,
 }
 

@@ -1,4 +1,4 @@
-//! The clock and the controllers: what both hubs share, with no open command in it.
+//! The clock and the controllers: what both hubs share, open commands aside.
 
 use crate::checks::{all_reasons, is_started, refusal, Case};
 use crate::codes::{command as code, event, CONTROLLERS, NON_CONTROLLER};

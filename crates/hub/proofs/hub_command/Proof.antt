@@ -3,7 +3,6 @@ use mathlib.Core.Path.{refl}
 use Prim.Native.Nat.{_-_}
 use borrow.Author.Needs.{needs}
 use Rattle.model.specs.Meanings.{hubCommand}
-use Rattle.model.specs.Proof.Room.{notSave}
 use Rattle.hub.specs.Entries.{count-call, returns-packed}
 use Rattle.hub.proofs.hub_command.Statement.{statement}
 use Rattle.hub.proofs.hub_command.Tie as tie
@@ -12,8 +11,7 @@ command-requires : tie.Need-command-requires
 command-requires c κs = search needs
 
 pack-requires : tie.Need-pack-requires
-unfolding notSave
-pack-requires c κs = count-call _ _ _ _ _ _ refl (c .before .before .before .before .command .ensures)
+pack-requires c κs = count-call _ _ _ _ _ _ (c .before .before .before .before .command .ensures)
 
 same-length : tie.Need-same-length
 same-length c = search needs

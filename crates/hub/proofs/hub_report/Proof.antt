@@ -3,7 +3,6 @@ use mathlib.Core.Path.{refl}
 use Prim.Native.Nat.{_-_}
 use borrow.Author.Needs.{needs}
 use Rattle.model.specs.Meanings.{hubReport}
-use Rattle.model.specs.Proof.Room.{notSave}
 use Rattle.hub.specs.Entries.{count-call, returns-packed}
 use Rattle.hub.proofs.hub_report.Statement.{statement}
 use Rattle.hub.proofs.hub_report.Tie as tie
@@ -12,8 +11,7 @@ report-requires : tie.Need-report-requires
 report-requires c κs = search needs
 
 pack-requires : tie.Need-pack-requires
-unfolding notSave
-pack-requires c κs = count-call _ _ _ _ _ _ refl (c .before .before .before .before .report .ensures)
+pack-requires c κs = count-call _ _ _ _ _ _ (c .before .before .before .before .report .ensures)
 
 same-length : tie.Need-same-length
 same-length c = search needs

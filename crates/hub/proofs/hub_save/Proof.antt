@@ -2,8 +2,7 @@
 use Prim.Native.Nat.{_-_}
 use borrow.Author.Needs.{needs}
 use Rattle.model.specs.Meanings.{hubSave}
-use Rattle.model.specs.Theorems.{no-image-longer}
-use Rattle.hub.specs.Entries.{count-short, returns-packed}
+use Rattle.hub.specs.Entries.{count-call, returns-packed}
 use Rattle.hub.proofs.hub_save.Statement.{statement}
 use Rattle.hub.proofs.hub_save.Tie as tie
 
@@ -11,8 +10,7 @@ save-requires : tie.Need-save-requires
 save-requires c κs = search needs
 
 pack-requires : tie.Need-pack-requires
-unfolding hubSave
-pack-requires c κs = count-short _ _ _ _ _ _ (c .before .before .save .ensures) (no-image-longer _ _)
+pack-requires c κs = count-call _ _ _ _ _ _ (c .before .before .save .ensures)
 
 same-length : tie.Need-same-length
 same-length c = search needs

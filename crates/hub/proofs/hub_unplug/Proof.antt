@@ -3,7 +3,6 @@ use mathlib.Core.Path.{refl}
 use Prim.Native.Nat.{_-_}
 use borrow.Author.Needs.{needs}
 use Rattle.model.specs.Meanings.{hubUnplug}
-use Rattle.model.specs.Proof.Room.{notSave}
 use Rattle.hub.specs.Entries.{count-call, returns-packed}
 use Rattle.hub.proofs.hub_unplug.Statement.{statement}
 use Rattle.hub.proofs.hub_unplug.Tie as tie
@@ -12,8 +11,7 @@ unplug-requires : tie.Need-unplug-requires
 unplug-requires c κs = search needs
 
 pack-requires : tie.Need-pack-requires
-unfolding notSave
-pack-requires c κs = count-call _ _ _ _ _ _ refl (c .before .before .before .before .unplug .ensures)
+pack-requires c κs = count-call _ _ _ _ _ _ (c .before .before .before .before .unplug .ensures)
 
 same-length : tie.Need-same-length
 same-length c = search needs

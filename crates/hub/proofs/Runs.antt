@@ -1,0 +1,102 @@
+-- Demand 3 of every run of the exported functions: what a host reads of numbers and buffers is what the model answers, so a run is the model's list.
+-- Assumes nothing.
+use Prim.Native.Nat.{ℕ, _+_, _*_, _/_, _%_, _^_, _≤_, _<_}
+use native.Mathlib.Omega.{arith}
+use mathlib.Core.Path.{_≡_, refl, sym, ap, _∙_}
+use mathlib.Core.Bool.{true}
+use mathlib.Core.List.{List, [], _∷_, _++_, map}
+use lib.ListN.{length, take, drop}
+use lib.Seq.{take-append-seam}
+use lib.Dec.{ltb}
+use borrow.Author.Tests.{lt-ltb}
+use Rattle.model.specs.Octets.{Octets, bytes}
+use Rattle.model.specs.Hub.{Call, Result}
+use Rattle.model.specs.WellFormed.{callWide, callsWide}
+use Rattle.model.specs.Meanings.{hubClock, hubCommand, hubLoad, hubPlug, hubReport, hubSave, hubUnplug, meaning}
+use Rattle.model.specs.Demand3.{Entry, after, entry, trace}
+use Rattle.model.specs.Theorems.{answers-are-eight, count-fits, demand-3, load-writes-nothing}
+use Rattle.model.specs.Proof.Tests.{both}
+use Rattle.hub.specs.Entries.{Returns}
+use Rattle.hub.specs.Runs.{Demand3OfRuns, Loads, Run, Seen, Step, answerIn, countIn, ends, entryOf, octetsIn, step}
+use Rattle.hub.specs.Runs as Runs
+
+-- 1. What a number says -------------------------------------------------------------------------------------------------------------------------
+
+-- an answer of 0 to 7 and a count of 24 bits are read back from the number as they were put in
+pub read-back : (r a n : ℕ) → r ≡ a + 256 * n → a ≤ 7 → n < 2 ^ 24 → (answerIn r ≡ a) × (countIn r ≡ n)
+unfolding answerIn countIn
+read-back r a n e k l = rw e (omega arith, omega arith)
+
+-- what a host reads of a call is what the model answers
+pub seen-is : (s : Octets) (c : Call) (r : ℕ) (before reply left : Octets) → Returns (meaning s c) r before reply left
+    → (answerIn r ≡ meaning s c .answer) × (countIn r ≡ length (meaning s c .octets)) × (octetsIn r reply ≡ meaning s c .octets)
+unfolding octetsIn
+seen-is s c r before reply left k =
+    let b = read-back r (meaning s c .answer) (length (meaning s c .octets)) (k .number) (answers-are-eight s c) (count-fits s c) in
+    (b .0, b .1, rw (b .1, k .reply) (take-append-seam (meaning s c .octets) (drop (length (meaning s c .octets)) before)))
+
+-- 2. A step is a call of the model ----------------------------------------------------------------------------------------------------------------
+
+-- what is known of a step: its arguments are wide enough, what is seen of it is the model's entry, and the state left is the model's
+record StepOf (s : Octets) (c : Call) (r : ℕ) (reply left : Octets) : Type 0 where
+  wide : callWide c ≡ true
+  seen : entry c (answerIn r) (octetsIn r reply) ≡ entry c (meaning s c .answer) (meaning s c .octets)
+  state : left ≡ meaning s c .state
+
+-- a contract is such a step
+step-by : (s : Octets) (c : Call) (r : ℕ) (before reply left : Octets) → callWide c ≡ true → Returns (meaning s c) r before reply left → StepOf s c r reply left
+step-by s c r before reply left w k =
+    let b = seen-is s c r before reply left k in
+    record { wide = w; seen = rw (b .0, b .2); state = k .state }
+
+-- each of the six
+step-of : (s : Octets) (c : Call) (r : ℕ) (reply left : Octets) → Step s c r reply left → StepOf s c r reply left
+unfolding callWide hubCommand hubReport hubClock hubPlug hubUnplug hubSave
+step-of s c r reply left (Runs.command {before = b} w k) = step-by s c r b reply left w k
+step-of s c r reply left (Runs.report {before = b} k) = step-by s c r b reply left refl k
+step-of s c r reply left (Runs.clock {reading = t} {before = b} w k) = step-by s c r b reply left (lt-ltb t (2 ^ 32) w) k
+step-of s c r reply left (Runs.plug {before = b} w k) = step-by s c r b reply left w k
+step-of s c r reply left (Runs.unplug {before = b} k) = step-by s c r b reply left refl k
+step-of s c r reply left (Runs.save {before = b} k) = step-by s c r b reply left refl k
+
+-- 3. A run is a list of calls of the model ------------------------------------------------------------------------------------------------------
+
+-- the calls of a run
+callsOf : List Seen → List Call
+callsOf xs = map (λ (x : Seen). x .call) xs
+
+-- what is known of a run: its calls are wide enough, what is seen of it is the model's trace, and it ends in the model's state
+record RunOf (s : Octets) (xs : List Seen) (end : Octets) : Type 0 where
+  wide : callsWide (callsOf xs) ≡ true
+  seen : map entryOf xs ≡ trace meaning s (callsOf xs)
+  state : end ≡ after meaning s (callsOf xs)
+
+-- a step before a run
+run-more : (s next end : Octets) (x : Seen) (xs : List Seen) → StepOf s (x .call) (x .returned) (x .reply) next → RunOf next xs end → RunOf s (x ∷ xs) end
+unfolding callsOf callsWide trace after entryOf
+run-more s next end x xs a b = record {
+  wide = both (a .wide) (b .wide);
+  seen = rw (a .seen, b .seen, a .state);
+  state = rw (b .state, a .state);
+}
+
+-- every run
+run-of : (s end : Octets) (xs : List Seen) → Run s xs end → RunOf s xs end
+unfolding callsOf callsWide trace after
+run-of s end xs ends = record { wide = refl; seen = refl; state = refl }
+run-of s end (x ∷ xs) (step {next = n} k more) = run-more s n end x xs (step-of s (x .call) (x .returned) (x .reply) n k) (run-of n end xs more)
+
+-- 4. Demand 3 -----------------------------------------------------------------------------------------------------------------------------------
+
+-- a load whose number has answer 0 returned 0
+taken-by : (n r : ℕ) → r ≡ n → n ≤ 7 → answerIn r ≡ 0 → n ≡ 0
+unfolding answerIn
+taken-by n r e k z = omega arith
+
+-- DEMAND 3 OF EVERY RUN of the exported functions from a state that hub_load made
+pub demand-3-of-runs : Demand3OfRuns
+demand-3-of-runs buffer image s end r xs b l z run =
+    let k = run-of s end xs run in
+    let a : hubLoad buffer image .answer ≡ 0 = taken-by (hubLoad buffer image .answer) r (l .number) (load-writes-nothing buffer image .0) z in
+    let d = demand-3 buffer image (callsOf xs) b (k .wide) a in
+    rw (k .seen, k .state, l .state) d

@@ -1,0 +1,83 @@
+-- A run: calls of the exported functions one after the other on one state buffer, each known by nothing but what its contract says; and demand 3 over
+-- what a C host sees of it, the numbers returned and the buffers.
+use Prim.Native.Nat.{ℕ, _/_, _%_, _^_, _<_}
+use mathlib.Core.Path.{_≡_}
+use mathlib.Core.Bool.{true}
+use mathlib.Core.List.{List, [], _∷_, map}
+use lib.ListN.{length, take}
+use Rattle.model.specs.declared.Hardware.{Hardware}
+use Rattle.model.specs.Octets.{Octets, bytes}
+use Rattle.model.specs.Hub.{Call}
+use Rattle.model.specs.Hub as Calls
+use Rattle.model.specs.WellFormed.{hardwareWide}
+use Rattle.model.specs.Layout.{cleared}
+use Rattle.model.specs.Meanings.{hubClock, hubCommand, hubLoad, hubPlug, hubReport, hubSave, hubUnplug, plainMeaning}
+use Rattle.model.specs.Demand3.{Agrees, Entry, entry, noPending, reduce}
+use Rattle.hub.specs.Entries.{Returns}
+
+-- What a host reads ---------------------------------------------------------------------------------------------------------------------------
+
+-- the answer in a number returned: its lowest eight bits
+unfoldable pub answerIn : ℕ → ℕ
+answerIn r = r % 256
+
+-- the count in it: the 24 bits above them
+unfoldable pub countIn : ℕ → ℕ
+countIn r = r / 256 % 2 ^ 24
+
+-- the octets written: so many from the start of the reply buffer
+unfoldable pub octetsIn : ℕ → Octets → Octets
+octetsIn r reply = take (countIn r) reply
+
+-- a call as a host sees it: the call, the number returned, and the reply buffer afterwards
+pub record Seen : Type 0 where
+  pub call : Call
+  pub returned : ℕ
+  pub reply : Octets
+
+-- the same as an entry of demand 3's list
+unfoldable pub entryOf : Seen → Entry
+entryOf x = entry (x .call) (answerIn (x .returned)) (octetsIn (x .returned) (x .reply))
+
+-- Runs ----------------------------------------------------------------------------------------------------------------------------------------
+
+-- One call on the state s: it returned r, the reply buffer is `after`, the state `left`. Each case is the contract of one function, for arguments
+-- as wide as their C types (octets, a version of 8 bits, a manufacturer of 16, a reading of 32).
+pub data Step (s : Octets) : Call → ℕ → Octets → Octets → Type 0 where
+  -- hub_command
+  command : {packet before after left : Octets} {r : ℕ} → bytes packet ≡ true → Returns (hubCommand s packet (length before)) r before after left
+      → Step s (Calls.command (length before) packet) r after left
+  -- hub_report
+  report : {index status r : ℕ} {before after left : Octets} → Returns (hubReport s index status (length before)) r before after left
+      → Step s (Calls.report (length before) index status) r after left
+  -- hub_clock
+  clock : {reading r : ℕ} {before after left : Octets} → reading < 2 ^ 32 → Returns (hubClock s reading (length before)) r before after left
+      → Step s (Calls.clock (length before) reading) r after left
+  -- hub_plug
+  plug : {index r : ℕ} {hardware : Hardware} {before after left : Octets} → hardwareWide hardware ≡ true
+      → Returns (hubPlug s index hardware (length before)) r before after left → Step s (Calls.plug (length before) index hardware) r after left
+  -- hub_unplug
+  unplug : {index r : ℕ} {before after left : Octets} → Returns (hubUnplug s index (length before)) r before after left
+      → Step s (Calls.unplug (length before) index) r after left
+  -- hub_save, which only reads the state
+  save : {r : ℕ} {before after : Octets} → Returns (hubSave s (length before)) r before after s → Step s (Calls.save (length before)) r after s
+
+-- calls one after the other, each on the state buffer as the last one left it
+pub data Run : Octets → List Seen → Octets → Type 0 where
+  -- no call: the state is as it was
+  ends : {s : Octets} → Run s [] s
+  -- a call, then the others
+  step : {s next end : Octets} {x : Seen} {xs : List Seen} → Step s (x .call) (x .returned) (x .reply) next → Run next xs end → Run s (x ∷ xs) end
+
+-- Demand 3 of every run -------------------------------------------------------------------------------------------------------------------------
+
+-- hub_load returned r and left the state s, as its contract says
+pub record Loads (buffer image : Octets) (r : ℕ) (s : Octets) : Type 0 where
+  pub number : r ≡ hubLoad buffer image .answer
+  pub state : s ≡ hubLoad buffer image .state
+
+-- For any state that hub_load made and any run from it: the at-once hub, given what is left of the calls by the numbers and buffers seen, answers and
+-- writes the same, and ends in the same state once open commands are cleared.
+abbrev pub Demand3OfRuns : Type 0
+Demand3OfRuns = (buffer image s end : Octets) (r : ℕ) (xs : List Seen) → bytes image ≡ true → Loads buffer image r s → answerIn r ≡ 0 → Run s xs end
+    → Agrees plainMeaning s (reduce noPending (map entryOf xs)) (cleared end)

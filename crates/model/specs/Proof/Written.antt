@@ -1,0 +1,314 @@
+-- What every call writes with its answer, from the rules up to the octets of the lent state.
+use Prim.Native.Nat.{ℕ, _^_, _≤_}
+use native.Mathlib.Omega.{arith}
+use mathlib.Core.Path.{_≡_, refl, sym}
+use mathlib.Core.Bool.{Bool, true, false, _&&_, _||_, not}
+use mathlib.Core.List.{List, [], _∷_}
+use mathlib.Core.Option.{Option, none, some}
+use lib.ListN.{length, take}
+use lib.Dec.{eqb, leb, ltb}
+use Rattle.model.specs.Lengths as Lengths
+use Rattle.model.specs.Statuses as Statuses
+use Rattle.model.specs.Octets.{Octets, commandStatus}
+use Rattle.model.specs.State.{Controller, Hardware, Hub, OpenCommand, PlainHub, controllerAt, hardwareOk}
+use Rattle.model.specs.Reasons.{Reason, statusOf, codeUnknown, controllerAbsent, firstOf, indexNotNone, lengthWrong}
+use Rattle.model.specs.Rules.{Immediate, ImmediateRule, RadioRule, Rule, done, general, immediate, radio, refuse}
+use Rattle.model.specs.Immediate.{addDevice, addUuid, blockDevice, loadKeys, readInformation, removeDevice, removeUuid, setBondable}
+use Rattle.model.specs.Immediate.{setLocalName, unblockDevice, unpairDevice}
+use Rattle.model.specs.Commands.{Row, find, rows, rule}
+use Rattle.model.specs.Hub.{Call, Outcome, RefusalForm, Result, Verdict, acted, answerOf, anyway, badArgument, badPacket, busyOr, byRule}
+use Rattle.model.specs.Hub.{byStatus, call, callPlain}
+use Rattle.model.specs.Hub.{clock, clockOut, codeOf, command, commandOut, finish, finishBy, finished, generalOut, immediateAt, immediateDone}
+use Rattle.model.specs.Hub.{indexOf, keep, noRoom}
+use Rattle.model.specs.Hub.{octetsOf, outcome, packetOk, paramsOf, plug, plugOut, radioAfterBusy, radioAt, radioBeforeBusy, refusalForm}
+use Rattle.model.specs.Hub.{refusalOctets, refused, report}
+use Rattle.model.specs.Hub.{reportOut, save, stepOf, underWay, unlessBusy, unplug, unplugOut, unplugged, verdict, within}
+use Rattle.model.specs.Image.{image, load}
+use Rattle.model.specs.Layout.{decode}
+use Rattle.model.specs.Meanings.{badState, hubLoad, laidOut, loadMeaning, loadedInto, meaning, stateOk}
+use Rattle.model.specs.Written.{OneReply, Written, addressCommand, because, busy, byCommandComplete, byCommandStatus, ofCommand}
+use Rattle.model.specs.Written as W
+use Rattle.model.specs.Proof.Tests.{and-true, either, equal}
+
+-- 1. How a refusal is written -------------------------------------------------------------------------------------------------------------------
+
+-- the form of a refusal of this call: with the index and code of its packet, and with its address and type only where it is an address command
+pub data FormOf : Call → RefusalForm → Type 0 where
+  -- by Command Status
+  plain : {room : ℕ} {packet : Octets} → FormOf (command room packet) (byStatus (indexOf packet) (codeOf packet))
+  -- by Command Complete
+  addressed : {room : ℕ} {packet : Octets} → addressCommand (codeOf packet) ≡ true
+      → FormOf (command room packet) (refusalForm true (indexOf packet) (codeOf packet) (paramsOf packet))
+
+-- an outcome of this call: if it is a refusal, it has such a form; a bad packet is a command's
+unfoldable pub Formed : Call → Outcome → Type 0
+Formed c (finished o p) = Unit
+Formed c (refused f r) = FormOf c f
+Formed c badPacket = Written c 3 []
+Formed c noRoom = Unit
+Formed c badArgument = Unit
+
+-- a refusal of such a form is one status reply
+form-written : (c : Call) (f : RefusalForm) (r : Reason) → FormOf c f → Written c 2 (refusalOctets (f .index) (f .code) (f .address) (statusOf r))
+unfolding refusalOctets byStatus refusalForm
+form-written c f r plain = W.refused (byCommandStatus (because r))
+form-written c f r (addressed a) = W.refused (byCommandComplete a (because r))
+
+-- so what such an outcome writes is as its answer says
+pub outcome-written : (c : Call) (o : Outcome) → Formed c o → Written c (answerOf o) (octetsOf o)
+unfolding Formed answerOf octetsOf
+outcome-written c (finished o p) f = W.done
+outcome-written c (refused g r) f = form-written c g r f
+outcome-written c badPacket f = f
+outcome-written c noRoom f = W.smallBuffer
+outcome-written c badArgument f = W.badArgument
+
+-- 2. Commands -----------------------------------------------------------------------------------------------------------------------------------
+
+-- only the rules of the five address commands are refused by address
+unfoldable pub byAddressOk : ℕ → Rule → Bool
+byAddressOk code (general f) = true
+byAddressOk code (immediate q) = not (q .byAddress) || addressCommand code
+byAddressOk code (radio r) = true
+
+-- a test of the code and rule of every row in a list
+unfoldable pub everyRow : (ℕ → Rule → Bool) → List Row → Bool
+everyRow t [] = true
+everyRow t (r ∷ rs) = t (r .0) (r .1) && everyRow t rs
+
+-- what every row passes, the row that a code finds passes
+row-test : (t : ℕ → Rule → Bool) (code : ℕ) (rs : List Row) (u : Rule) → everyRow t rs ≡ true → find code rs ≡ some u → t code u ≡ true
+unfolding everyRow find
+row-test t code [] u e f = let z : _≡_ {A = ℕ} 0 1 = cc in absurd (omega arith)
+row-test t code (r ∷ rs) u e f = let h = and-true (t (r .0) (r .1)) (everyRow t rs) e in go (eqb (r .0) code) refl f (h .0) (row-test t code rs u (h .1))
+  where
+    go : (b : Bool) → eqb (r .0) code ≡ b → _≡_ {A = Option Rule} (elim b [ true ↦ some (r .1) | false ↦ find code rs ]) (some u)
+        → t (r .0) (r .1) ≡ true → (find code rs ≡ some u → t code u ≡ true) → t code u ≡ true
+    go true q f here more = let x : r .1 ≡ u = cc in let c : r .0 ≡ code = equal (r .0) code q in rw (c, x) at here
+    go false q f here more = more f
+
+-- every row of the table of commands passes
+rows-by-address : everyRow byAddressOk rows ≡ true
+unfolding rows everyRow byAddressOk addressCommand readInformation setBondable setLocalName addUuid removeUuid loadKeys unpairDevice blockDevice
+    unblockDevice addDevice removeDevice
+rows-by-address = refl
+
+-- a command that is refused by address is one of the five
+address-rule : (code : ℕ) (q : ImmediateRule) → rule code ≡ some (immediate q) → q .byAddress ≡ true → addressCommand code ≡ true
+unfolding rule byAddressOk
+address-rule code q e a = let t = row-test byAddressOk code rows (immediate q) rows-by-address e in rw a at t
+
+module _ (room : ℕ) (packet : Octets) where
+  -- done or refused at once
+  immediate-formed : (p : PlainHub) (a : Bool) (c : Controller) (q : Immediate) → (a ≡ true → addressCommand (codeOf packet) ≡ true)
+      → Formed (command room packet) (immediateDone p (indexOf packet) (codeOf packet) (paramsOf packet) a c q)
+  unfolding Formed immediateDone refusalForm
+  immediate-formed p true c (refuse r) f = addressed (f refl)
+  immediate-formed p false c (refuse r) f = plain
+  immediate-formed p a c (done out evs h) f = tt
+
+  -- a command that is never Busy
+  at-formed : (p : PlainHub) (q : ImmediateRule) (s : Option Controller) → (q .byAddress ≡ true → addressCommand (codeOf packet) ≡ true)
+      → Formed (command room packet) (immediateAt p (indexOf packet) (codeOf packet) (paramsOf packet) q s)
+  unfolding Formed immediateAt
+  at-formed p q none f = plain
+  at-formed p q (some c) f =
+      either {A = Outcome} (λ o. Formed (command room packet) o) (q .size (paramsOf packet)) (λ _. immediate-formed p (q .byAddress) c _ f) (λ _. plain)
+
+  -- a general command
+  general-formed : (p : PlainHub) (f : PlainHub → Octets) → Formed (command room packet) (generalOut p (indexOf packet) (codeOf packet) (paramsOf packet) f)
+  unfolding Formed generalOut
+  general-formed p f =
+      either {A = Outcome} (λ o. Formed (command room packet) o) (eqb (indexOf packet) 0xFFFF)
+      (λ _. either {A = Outcome} (λ o. Formed (command room packet) o) (eqb (length (paramsOf packet)) 0) (λ _. tt) (λ _. plain)) (λ _. plain)
+
+  -- a settings command that can be Busy, past the checks before Busy
+  after-formed : (p : PlainHub) (r : RadioRule) (c : Controller) (x : Option Reason)
+      → Formed (command room packet) (outcome (radioAfterBusy p (indexOf packet) (codeOf packet) (paramsOf packet) r c x))
+  unfolding Formed radioAfterBusy outcome acted
+  after-formed p r c (some x) = plain
+  after-formed p r c none = tt
+
+  -- the same before them
+  before-formed : (p : PlainHub) (r : RadioRule) (c : Controller) (x : Option Reason)
+      → Formed (command room packet) (outcome (radioBeforeBusy p (indexOf packet) (codeOf packet) (paramsOf packet) r c x))
+  unfolding Formed radioBeforeBusy outcome
+  before-formed p r c (some x) = plain
+  before-formed p r c none = after-formed p r c (firstOf (r .afterBusy (c .radio) (paramsOf packet)))
+
+  -- the same with its index and its length
+  radio-formed : (p : PlainHub) (r : RadioRule) (s : Option Controller)
+      → Formed (command room packet) (outcome (radioAt p (indexOf packet) (codeOf packet) (paramsOf packet) r s))
+  unfolding Formed radioAt outcome
+  radio-formed p r none = plain
+  radio-formed p r (some c) =
+      either {A = Verdict} (λ v. Formed (command room packet) (outcome v)) (eqb (length (paramsOf packet)) (r .size))
+      (λ _. before-formed p r c (firstOf (r .beforeBusy (c .radio) (paramsOf packet)))) (λ _. plain)
+
+  -- any command, by the rule of its code
+  rule-formed : (p : PlainHub) (u : Option Rule) → rule (codeOf packet) ≡ u
+      → Formed (command room packet) (outcome (byRule p (indexOf packet) (codeOf packet) (paramsOf packet) u))
+  unfolding Formed byRule outcome
+  rule-formed p none e = plain
+  rule-formed p (some (general f)) e = general-formed p f
+  rule-formed p (some (immediate q)) e = at-formed p q (controllerAt p (indexOf packet)) (address-rule (codeOf packet) q e)
+  rule-formed p (some (radio r)) e = radio-formed p r (controllerAt p (indexOf packet))
+
+  -- any packet
+  verdict-formed : (p : PlainHub) → Formed (command room packet) (outcome (verdict p room packet))
+  unfolding Formed verdict outcome
+  verdict-formed p =
+      either {A = Verdict} (λ v. Formed (command room packet) (outcome v)) (ltb room Lengths.replyBuffer) (λ _. tt)
+      (λ _. either {A = Verdict} (λ v. Formed (command room packet) (outcome v)) (packetOk packet)
+      (λ _. rule-formed p (rule (codeOf packet)) refl) (λ _. W.badPacket))
+
+  -- Busy, started, or done at once
+  busy-written : (h : Hub) (o : Outcome) (w : Bool) (x : Option OpenCommand) → Formed (command room packet) o
+      → Written (command room packet) (busyOr h (indexOf packet) (codeOf packet) (paramsOf packet) o w x .answer)
+      (busyOr h (indexOf packet) (codeOf packet) (paramsOf packet) o w x .octets)
+  unfolding busyOr keep
+  busy-written h o w (some x) f = W.refused (byCommandStatus busy)
+  busy-written h o true none f = W.started
+  busy-written h o false none f = outcome-written (command room packet) o f
+
+  -- a command to our hub
+  command-written : (h : Hub) (v : Verdict) (x : Option OpenCommand) → Formed (command room packet) (outcome v)
+      → Written (command room packet) (commandOut h (indexOf packet) (codeOf packet) (paramsOf packet) v x .answer)
+      (commandOut h (indexOf packet) (codeOf packet) (paramsOf packet) v x .octets)
+  unfolding commandOut outcome keep
+  command-written h (anyway o) x f = outcome-written (command room packet) o f
+  command-written h (unlessBusy o w) x f = busy-written h o w x f
+
+-- 3. The other calls ----------------------------------------------------------------------------------------------------------------------------
+
+-- an outcome behind the test of the room
+within-formed : (c : Call) (need room : ℕ) (o : Outcome) → Formed c o → Formed c (within need room o)
+unfolding within Formed
+within-formed c need room o f = either {A = Outcome} (λ x. Formed c x) (ltb room need) (λ _. tt) (λ _. f)
+
+-- a reading of the clock
+clock-formed : (c : Call) (p : PlainHub) (reading : ℕ) → Formed c (clockOut p reading)
+unfolding Formed clockOut
+clock-formed c p reading = either {A = Outcome} (λ x. Formed c x) (leb (2 ^ 31) (stepOf (p .clock) reading)) (λ _. tt) (λ _. tt)
+
+-- a plug
+plug-formed : (c : Call) (p : PlainHub) (i : ℕ) (f : Hardware) (s : Option Controller) → Formed c (plugOut p i f s)
+unfolding Formed plugOut
+plug-formed c p i f (some d) = tt
+plug-formed c p i f none = either {A = Outcome} (λ x. Formed c x) (ltb i 4 && hardwareOk f) (λ _. tt) (λ _. tt)
+
+-- an unplug, with the reply owed to a command that it cuts off
+unplug-written : (c : Call) (h : Hub) (i : ℕ) (o : Outcome) → Formed c o → Written c (unplugged h i o .answer) (unplugged h i o .octets)
+unfolding unplugged keep
+unplug-written c h i (finished o p) f = W.done
+unplug-written c h i (refused g r) f = outcome-written c (refused g r) f
+unplug-written c h i badPacket f = outcome-written c badPacket f
+unplug-written c h i noRoom f = outcome-written c noRoom f
+unplug-written c h i badArgument f = outcome-written c badArgument f
+
+-- the outcome of an unplug
+unplug-formed : (c : Call) (p : PlainHub) (i : ℕ) (s : Option Controller) → Formed c (unplugOut p i s)
+unfolding Formed unplugOut
+unplug-formed c p i none = tt
+unplug-formed c p i (some d) = tt
+
+-- a command that a report finishes
+finish-formed : (c : Call) (p : PlainHub) (i : ℕ) (o : OpenCommand) (u : Option Rule) (s : Option Controller) → Formed c (finishBy p i o u s)
+unfolding Formed finishBy acted
+finish-formed c p i o none s = tt
+finish-formed c p i o (some (general f)) s = tt
+finish-formed c p i o (some (immediate q)) s = tt
+finish-formed c p i o (some (radio r)) none = tt
+finish-formed c p i o (some (radio r)) (some d) = tt
+
+-- a wrong argument
+bad-written : (c : Call) → Written c (answerOf badArgument) (octetsOf badArgument)
+unfolding answerOf octetsOf
+bad-written c = W.badArgument
+
+-- a report
+report-written : (c : Call) (h : Hub) (i s : ℕ) (x : Option OpenCommand) → Written c (reportOut h i s x .answer) (reportOut h i s x .octets)
+unfolding reportOut keep finish
+report-written c h i s none = bad-written c
+report-written c h i s (some o) =
+    either {A = Result Hub} (λ r. Written c (r .answer) (r .octets)) (ltb Statuses.highest s) (λ _. bad-written c)
+    (λ _. either {A = Result Hub} (λ r. Written c (r .answer) (r .octets)) (eqb s 0)
+    (λ _. outcome-written c (finish (h .plain) i o) (finish-formed c (h .plain) i o (rule (o .code)) (controllerAt (h .plain) i))) (λ _. W.done))
+
+-- 4. Every call -----------------------------------------------------------------------------------------------------------------------------------
+
+-- any call to our hub
+call-written : (h : Hub) (c : Call) → Written c (call h c .answer) (call h c .octets)
+unfolding call callPlain keep Formed answerOf octetsOf
+call-written h (command room packet) =
+    command-written room packet h (verdict (h .plain) room packet) (underWay h (indexOf packet)) (verdict-formed room packet (h .plain))
+call-written h (report room i s) =
+    either {A = Result Hub} (λ r. Written (report room i s) (r .answer) (r .octets)) (ltb room Lengths.replyBuffer) (λ _. W.smallBuffer)
+    (λ _. report-written (report room i s) h i s (underWay h i))
+call-written h (clock room reading) =
+    let o = clockOut (h .plain) reading in
+    outcome-written (clock room reading) (within Lengths.replyBuffer room o)
+    (within-formed (clock room reading) Lengths.replyBuffer room o (clock-formed (clock room reading) (h .plain) reading))
+call-written h (plug room i f) =
+    let s = controllerAt (h .plain) i in
+    let o = plugOut (h .plain) i f s in
+    outcome-written (plug room i f) (within Lengths.replyBuffer room o)
+    (within-formed (plug room i f) Lengths.replyBuffer room o (plug-formed (plug room i f) (h .plain) i f s))
+call-written h (unplug room i) =
+    let s = controllerAt (h .plain) i in
+    let o = unplugOut (h .plain) i s in
+    unplug-written (unplug room i) h i (within Lengths.replyBuffer room o)
+    (within-formed (unplug room i) Lengths.replyBuffer room o (unplug-formed (unplug room i) (h .plain) i s))
+call-written h (save room) =
+    let o = finished (image (h .plain)) (h .plain) in
+    outcome-written (save room) (within Lengths.largestImage room o) (within-formed (save room) Lengths.largestImage room o tt)
+
+-- EVERY CALL WRITES WHAT ITS ANSWER LETS IT WRITE, whatever the lent octets hold
+pub state-written : (s : Octets) (c : Call) → Written c (meaning s c .answer) (meaning s c .octets)
+unfolding meaning laidOut badState
+state-written s c = either {A = Result Octets} (λ r. Written c (r .answer) (r .octets)) (stateOk s) (λ _. call-written (decode s) c) (λ _. W.badState)
+
+-- 5. What follows for each number ---------------------------------------------------------------------------------------------------------------
+
+-- neither done nor refused: nothing is written
+pub silent : (c : Call) (n : ℕ) (o : Octets) → Written c n o → (n ≡ 0 → ⊥) → (n ≡ 2 → ⊥) → o ≡ []
+silent c n o W.done a b = absurd (a refl)
+silent c n o W.started a b = refl
+silent c n o (W.refused r) a b = absurd (b refl)
+silent c n o W.badPacket a b = refl
+silent c n o W.smallBuffer a b = refl
+silent c n o W.badState a b = refl
+silent c n o W.badArgument a b = refl
+
+-- refused: one status reply
+pub one-reply : (c : Call) (n : ℕ) (o : Octets) → Written c n o → n ≡ 2 → OneReply c o
+one-reply c n o W.done e = absurd (omega arith)
+one-reply c n o W.started e = absurd (omega arith)
+one-reply c n o (W.refused r) e = ofCommand r
+one-reply c n o W.badPacket e = absurd (omega arith)
+one-reply c n o W.smallBuffer e = absurd (omega arith)
+one-reply c n o W.badState e = absurd (omega arith)
+one-reply c n o W.badArgument e = absurd (omega arith)
+
+-- the number is one of 0 to 7
+pub to-seven : (c : Call) (n : ℕ) (o : Octets) → Written c n o → n ≤ 7
+to-seven c n o W.done = omega arith
+to-seven c n o W.started = omega arith
+to-seven c n o (W.refused r) = omega arith
+to-seven c n o W.badPacket = omega arith
+to-seven c n o W.smallBuffer = omega arith
+to-seven c n o W.badState = omega arith
+to-seven c n o W.badArgument = omega arith
+
+-- a load, by what it read
+load-written-by : (s : Octets) (x : Option PlainHub) → (loadedInto s x .answer ≤ 7) × (loadedInto s x .octets ≡ [])
+unfolding loadedInto
+load-written-by s none = (omega arith, refl)
+load-written-by s (some p) = (omega arith, refl)
+
+-- a load answers one of 0 to 7 and writes nothing but the state
+pub load-written : (s o : Octets) → (hubLoad s o .answer ≤ 7) × (hubLoad s o .octets ≡ [])
+unfolding hubLoad loadMeaning badState
+load-written s o =
+    either {A = Result Octets} (λ r. (r .answer ≤ 7) × (r .octets ≡ [])) (eqb (length s) Lengths.state) (λ _. load-written-by s (load o))
+    (λ _. (omega arith, refl))
