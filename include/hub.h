@@ -112,6 +112,7 @@ uint64_t hub_report(uint8_t *state, size_t state_len, uint64_t index, uint64_t s
 
 /*
  * The clock reads so many seconds; it wraps at 2^32. Discoverable timers that end turn discoverable off and write New Settings, lowest index first.
+ * The step is counted from the reading before, which is 0 after hub_load.
  * Answers 0, or 6 for a step of 2^31 seconds or more (a reading from the past), 4 or 5.
  */
 uint64_t hub_clock(uint8_t *state, size_t state_len, uint32_t reading, uint8_t *reply, size_t reply_len);
