@@ -3,7 +3,7 @@ ghost use mathlib.Core.Path.{_≡_};
 ghost use Prim.Native.Nat.{_+_, _*_, _≤_, _<_};
 ghost use mathlib.Core.List.{_∷_, []};
 ghost use lib.ListN.{length, replicate};
-ghost use Rattle.model.specs.Octets.{le16, le32, be16, be32, u16, u32, number, allZero, same};
+ghost use Rattle.model.specs.Octets.{le16, le32, be32, u16, u32, number, allZero, same};
 ghost use Rattle.octets.specs.Parts.{part, writeAt};
 ghost use Rattle.octets.specs.Names.{usedPart};
 
@@ -80,15 +80,6 @@ pub fn put32(s: &mut [u8], at: usize, v: u64)
     s[at + 1] = (v / 256 % 256) as u8;
     s[at + 2] = (v / 65536 % 256) as u8;
     s[at + 3] = (v / 16777216 % 256) as u8;
-}
-
-// Writes v in two octets from the place `at` on, high octet first.
-pub fn put_be16(s: &mut [u8], at: usize, v: u64)
-    requires { ⌜ at + 2 ≤ length (now s) ⌝ }
-    ensures { λ _. ⌜ now (s .exit) ≡ writeAt (now (s .entry)) at (be16 v) ⌝ }
-{
-    s[at] = (v / 256 % 256) as u8;
-    s[at + 1] = (v % 256) as u8;
 }
 
 // Writes v in four octets from the place `at` on, high octet first.
