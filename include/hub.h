@@ -36,7 +36,7 @@ extern "C" {
 #define HUB_BAD_PACKET 3u   /* packet under 6 octets, or its length field is wrong */
 #define HUB_SMALL_BUFFER 4u /* reply buffer under HUB_REPLY_MIN (hub_save: under HUB_IMAGE_MAX) */
 #define HUB_BAD_STATE 5u    /* the lent state is not well formed */
-#define HUB_BAD_ARGUMENT 6u /* plug, unplug, report or clock argument wrong */
+#define HUB_BAD_ARGUMENT 6u /* plug, unplug, report, clock or name argument wrong */
 #define HUB_BAD_IMAGE 7u    /* image not acceptable (hub_load) */
 
 /* The answer, one of the numbers above. */
@@ -97,6 +97,12 @@ uint64_t hub_save(const uint8_t *state, size_t state_len, uint8_t *reply, size_t
  * whole image is acceptable. Answers 0, 5 for a state buffer of another length, or 7.
  */
 uint64_t hub_load(uint8_t *state, size_t state_len, const uint8_t *image, size_t image_len);
+
+/*
+ * Reads the name (0) or the short name (1) of the controller at an index: writes its octets up to the first zero, without it, at most 248 of them, none
+ * where no name was set. Answers 0, or 6 for an absent index or another number than 0 and 1, 4 or 5.
+ */
+uint64_t hub_name(const uint8_t *state, size_t state_len, uint64_t index, uint64_t which, uint8_t *reply, size_t reply_len);
 
 #ifdef __cplusplus
 }

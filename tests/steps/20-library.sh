@@ -17,7 +17,7 @@ printf '#include <stddef.h>\n#include <stdint.h>\n' | gcc -std=c11 -dM -E -x c -
 gcc -std=c11 -dM -E -x c include/hub.h | sort > "$out/names.with"
 diff <(comm -13 "$out/names.without" "$out/names.with" | grep -v '^#define HUB_' || true) /dev/null
 diff <(nm -g --defined-only "$lib" | awk 'NF == 3 { print $3 }' | sort) \
-    <(printf 'hub_%s\n' clock command load plug report save unplug)
+    <(printf 'hub_%s\n' clock command load name plug report save unplug)
 
 gcc -std=c11 -O2 $flags tests/c/constants.c "$lib" -o "$out/constants"
 g++ -std=c++17 -O2 $flags -x c++ tests/c/constants.c -x none "$lib" -o "$out/constants++"

@@ -16,3 +16,4 @@ pub mod Decode
 pub mod Demand3
 pub mod Keeps
 pub mod Room
+pub mod Names

@@ -3,9 +3,8 @@ ghost use mathlib.Core.Path.{_≡_};
 ghost use Prim.Native.Nat.{_+_, _*_, _≤_, _<_};
 ghost use mathlib.Core.List.{_∷_, []};
 ghost use lib.ListN.{length, replicate};
-ghost use Rattle.model.specs.Octets.{le16, le32, be32, u16, u32, number, allZero, same};
+ghost use Rattle.model.specs.Octets.{le16, le32, be32, u16, u32, number, allZero, same, usedPart};
 ghost use Rattle.octets.specs.Parts.{part, writeAt};
-ghost use Rattle.octets.specs.Names.{usedPart};
 
 // An octet as a number of 64 bits.
 pub fn wide(x: u8) -> u64

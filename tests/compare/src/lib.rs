@@ -6,6 +6,7 @@
 
 pub mod lent;
 pub mod mirror;
+pub mod names;
 pub mod run;
 pub mod script;
 pub mod shrink;

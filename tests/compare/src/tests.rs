@@ -25,6 +25,8 @@ enum Fault {
     Forgets,
     /// A failed report leaves the command open.
     StaysOpen,
+    /// The zero that ends a name is told too.
+    Name,
     /// Images are taken that should not be.
     Image,
     /// A state buffer that is too long is taken.
@@ -73,6 +75,18 @@ impl Target for Faulty {
         number
     }
 
+    fn name(&mut self, state: &[u8], index: u64, which: u64, reply: &mut [u8]) -> u64 {
+        let number = self.inner.name(state, index, which, reply);
+        let count = (number >> 8) as usize;
+        match self.fault {
+            Fault::Name if count > 0 => {
+                reply[count] = 0;
+                number + 256
+            }
+            _ => number,
+        }
+    }
+
     fn load(&mut self, state: &mut [u8], image: &[u8]) -> u64 {
         let number = self.inner.load(state, image);
         match self.fault {
@@ -107,6 +121,7 @@ fn every_fault_is_found() {
         Fault::State,
         Fault::Forgets,
         Fault::StaysOpen,
+        Fault::Name,
         Fault::Image,
         Fault::Length,
     ];
