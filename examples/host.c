@@ -1,6 +1,7 @@
 /*
  * A small host that plays a shift: it starts from an image or fresh, plugs two controllers, powers them with a slow radio while two clients
- * interleave, loads keys, lets the clock run, saves by write-then-rename and loads again. Every call is printed in words with its octets.
+ * interleave, loads keys, names a controller, lets the clock run, saves by write-then-rename, loads again and shows the name. Every call is printed
+ * in words with its octets.
  *
  *     host [IMAGE [LOG]]      IMAGE is read if it is there, and written at the end; LOG gets every packet (call_log.h)
  */
@@ -193,6 +194,25 @@ static void load_keys(void)
     send("A", "adds the UUID of Heart Rate, 0x180D, with hint 0x20", 0x0010, 0, uuid, sizeof uuid);
 }
 
+/* A client names controller 0. */
+static void set_name(const char *client, const char *name, const char *short_name)
+{
+    uint8_t names[260] = { 0 };
+    snprintf((char *)names, 249, "%s", name);
+    snprintf((char *)names + 249, 11, "%s", short_name);
+    send(client, "names controller 0", 0x000F, 0, names, sizeof names);
+}
+
+/* Shows the used part of a controller's name, and of its short name. */
+static void show_names(uint64_t index)
+{
+    for (uint64_t which = 0; which < 2; which++) {
+        uint64_t result = hub_name(state, sizeof state, index, which, reply, sizeof reply);
+        printf("The %s of controller %u: %s, \"%.*s\"\n", which ? "short name" : "name", (unsigned)index, answer_name(hub_answer(result)),
+               (int)hub_count(result), (const char *)reply);
+    }
+}
+
 /* The clients come before the first controller and stay to the end. */
 static void clients(const char *word)
 {
@@ -210,6 +230,7 @@ static int shift(const char *path)
     clock_reads(1000);
     interleave();
     load_keys();
+    set_name("A", "The plough on line 7", "Plough 7");
     clock_reads(1029);
     clock_reads(1031);
     send_octet("A", "sets controller 1 powered", 0x0005, 1, 1);
@@ -218,6 +239,7 @@ static int shift(const char *path)
     if (!save(path) || (path && !start(path)))
         return 0;
     send("B", "reads controller 0: unpowered, its keys kept", 0x0004, 0, address, 0);
+    show_names(0);
     return 1;
 }
 

@@ -47,7 +47,7 @@ extern "C" {
 #define HUB_BAD_PACKET 3u   /* the packet has no whole header, or another length than its header says */
 #define HUB_SMALL_BUFFER 4u /* the reply buffer is shorter than HUB_REPLY_MIN (hub_save: than HUB_IMAGE_MAX) */
 #define HUB_BAD_STATE 5u    /* the lent state is not well formed */
-#define HUB_BAD_ARGUMENT 6u /* a wrong argument, of hub_plug, hub_unplug, hub_report or hub_clock */
+#define HUB_BAD_ARGUMENT 6u /* a wrong argument, of hub_plug, hub_unplug, hub_report, hub_clock or hub_name */
 #define HUB_BAD_IMAGE 7u    /* hub_load does not take the image */
 
 /* The answer, one of the numbers above. */
@@ -139,6 +139,12 @@ uint64_t hub_save(const uint8_t *state, size_t state_len, uint8_t *reply, size_t
  * only if the whole image is acceptable. Answers 0, 5 for a state buffer of another length, or 7.
  */
 uint64_t hub_load(uint8_t *state, size_t state_len, const uint8_t *image, size_t image_len);
+
+/*
+ * Reads the name (0) or the short name (1) of the controller at an index: writes its octets up to the first zero, without it, at most 248 of them, none
+ * where no name was set. Answers 0, or 6 for an absent index or another number than 0 and 1, 4 or 5.
+ */
+uint64_t hub_name(const uint8_t *state, size_t state_len, uint64_t index, uint64_t which, uint8_t *reply, size_t reply_len);
 
 #ifdef __cplusplus
 }

@@ -1,6 +1,7 @@
 /*
  * Bad input from C: each call gets exactly the number that document 01 gives, in its order (5, then 4, then 3, 6 or 7), writes nothing but a refusal's
- * one reply, and leaves the state as it was. Every buffer is lent by malloc with exactly the length that is said, so that valgrind sees a step outside.
+ * one reply, and leaves the state as it was. Names are asked for right and wrong. Every buffer is lent by malloc with exactly the length that is said,
+ * so that valgrind sees a step outside.
  *
  *     bad_input [STRIDE]      lengths away from the limits only every STRIDE-th time; every one if nothing is said
  */
@@ -136,7 +137,7 @@ static void try_packet_length(size_t length)
     }
 }
 
-/* The first six calls with arguments that are wrong wherever they can be, all answered alike. */
+/* All calls but load with arguments that are wrong wherever they can be, all answered alike. */
 static void try_all_wrong(const char *what, size_t with, const struct lent *state, const struct lent *reply, unsigned answer)
 {
     uint8_t *s = state->octets, *r = reply->octets;
@@ -146,6 +147,7 @@ static void try_all_wrong(const char *what, size_t with, const struct lent *stat
     expect(what, with, hub_plug(s, state->length, 9, address, 5, 9, 15, 0, r, reply->length), answer, state, reply, NULL, 0);
     expect(what, with, hub_unplug(s, state->length, 9, r, reply->length), answer, state, reply, NULL, 0);
     expect(what, with, hub_save(s, state->length, r, reply->length), answer, state, reply, NULL, 0);
+    expect(what, with, hub_name(s, state->length, 9, 9, r, reply->length), answer, state, reply, NULL, 0);
 }
 
 /* A state buffer of a wrong length, and one of the right length that is not well formed: 5, whatever else is wrong. */
@@ -192,6 +194,7 @@ static void try_reply_length(size_t length)
            &state, &reply, version, fits ? sizeof version : 0);
     if (length > 0)
         memset(reply.octets, FILLER, length);
+    expect("name", length, hub_name(s, HUB_STATE_LEN, 0, 2, r, length), small, &state, &reply, NULL, 0);
     expect("save", length, hub_save(s, HUB_STATE_LEN, r, length), saves ? HUB_DONE : HUB_SMALL_BUFFER, &state, &reply, image, saves ? image_length : 0);
     take_back(reply);
     take_back(state);
@@ -204,6 +207,24 @@ static const uint64_t numbers[] = {
 };
 
 enum { NUMBERS = sizeof numbers / sizeof numbers[0] };
+
+/* A name: 6 for an index that is not there and for a number above 1; else the letters before the first zero, however many stand behind it. */
+static void try_names(const uint8_t *hub)
+{
+    struct lent state = lend(HUB_STATE_LEN, hub, HUB_STATE_LEN), reply;
+    uint8_t letters[248];
+    for (int i = 0; i < NUMBERS; i++)
+        for (int k = 0; k < NUMBERS; k++) {
+            int there = hub == base && numbers[i] <= 3 && numbers[k] <= 1;
+            size_t count = there ? (numbers[k] == 0 ? 100 : 10) : 0;
+            reply = lend(HUB_REPLY_MIN, NULL, 0);
+            memset(letters, 'a' + (int)(numbers[i] & 3), sizeof letters);
+            expect("name", (size_t)i, hub_name(state.octets, HUB_STATE_LEN, numbers[i], numbers[k], reply.octets, HUB_REPLY_MIN),
+                   there ? HUB_DONE : HUB_BAD_ARGUMENT, &state, &reply, letters, count);
+            take_back(reply);
+        }
+    take_back(state);
+}
 
 /* Index and status: 6 for all but a controller that is there and, for a report, waits and gets a status up to 0x14. */
 static void try_numbers(void)
@@ -288,6 +309,8 @@ int main(int argc, char **argv)
     try_lengths(try_reply_length, 1000, 1100, 1);
     try_lengths(try_reply_length, HUB_IMAGE_MAX - 50, HUB_IMAGE_MAX + 50, 1);
     try_numbers();
+    try_names(base);
+    try_names(fresh);
     try_plugs();
     try_lengths(try_image_length, 0, image_length + 300, stride);
     printf("bad input: %lu checks, %lu failures\n", tried, failures);

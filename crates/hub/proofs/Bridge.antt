@@ -1,6 +1,7 @@
 -- The ways out of a call, each as one law over plain variables.
 -- Assumes nothing.
 use Prim.Native.Nat.{ℕ, _≤_, _<_}
+use native.Mathlib.Omega.{arith}
 use mathlib.Core.Path.{_≡_, refl}
 use mathlib.Core.Bool.{true, false}
 use lib.ListN.{drop}
@@ -10,13 +11,16 @@ use Rattle.model.specs.declared.Hardware.{Hardware}
 use Rattle.model.specs.Image.{image}
 use Rattle.model.specs.Hub.{command, report, clock, plug, unplug, save, finished, badPacket, noRoom, codeOf, indexOf, packetOk, answerOf, octetsOf, stateOf, clockOut, plugOut, unplugOut, unplugged}
 use Rattle.model.specs.Layout.{decode}
-use Rattle.model.specs.Meanings.{stateOk, laidOut, meaning}
+use Rattle.model.specs.Meanings.{badState, hubName, stateOk, laidOut, meaning}
+use Rattle.model.specs.Theorems.{no-name-longer}
+use Rattle.model.specs.Answers.{countOf}
 use Rattle.replies.specs.Answers.{Gives}
 use Rattle.model.specs.declared.Answer.{Answer}
-use Rattle.model.specs.declared.Answer.the-variants.{BadPacket, SmallBuffer}
-use Rattle.outcomes.specs.Outcomes.{ended, dispatched, reported}
+use Rattle.model.specs.declared.Answer.the-variants.{BadPacket, SmallBuffer, BadState}
+use Rattle.outcomes.specs.Outcomes.{ended, dispatched, reported, named}
 use Rattle.outcomes.specs.Endings.{ends-silent}
 use Rattle.outcomes.specs.Routes.{command-small, command-bad, command-whole, report-small, report-whole, clock-small, clock-whole, plug-small, plug-whole, unplug-small, unplug-whole, save-small, save-whole}
+use Rattle.outcomes.specs.Routes.{name-small, name-whole}
 
 -- a reply buffer that is too short
 small : (s d : Octets) → stateOk s ≡ true → Gives (ended s noRoom) SmallBuffer d d s
@@ -86,3 +90,23 @@ save-no-room s d room ok l = rw (save-small s room ok l) (small s d ok)
 pub save-done : (s d d′ s′ : Octets) (room : ℕ) (r : Answer) → stateOk s ≡ true → 16014 ≤ room
     → Gives (ended s (finished (image (decode s .plain)) (decode s .plain))) r d d′ s′ → Gives (meaning s (save room)) r d d′ s′
 save-done s d d′ s′ room r ok l k = rw (save-whole s room ok l) k
+
+-- 3. A name, which is no call --------------------------------------------------------------------------------------------------------------------
+
+-- a state that is not well formed: 5
+pub name-bad : (s d : Octets) (i which room : ℕ) → stateOk s ≡ false → Gives (hubName s i which room) BadState d d s
+unfolding badState hubName
+name-bad s d i which room e = rw (e, hubName) (record { answer = refl; count = refl; reply = refl; state = refl })
+
+-- too short a reply buffer: 4
+pub name-no-room : (s d : Octets) (i which room : ℕ) → stateOk s ≡ true → room < 1024 → Gives (hubName s i which room) SmallBuffer d d s
+name-no-room s d i which room ok l = rw (name-small s i which room ok l) (small s d ok)
+
+-- with room, it comes to the model's word on what stands at the index
+pub name-done : (s d d′ s′ : Octets) (i which room : ℕ) (r : Answer) → stateOk s ≡ true → 1024 ≤ room
+    → Gives (named s i which) r d d′ s′ → Gives (hubName s i which room) r d d′ s′
+name-done s d d′ s′ i which room r ok l k = rw (name-whole s i which room ok l) k
+
+-- the count of a name is far below that of an image
+pub name-count : (s d d′ s′ : Octets) (i which room : ℕ) (r : Answer) → Gives (hubName s i which room) r d d′ s′ → countOf r ≤ 16014
+name-count s d d′ s′ i which room r g = rw (g .count) (omega (arith, no-name-longer s i which room))

@@ -17,7 +17,7 @@ use Rattle.model.specs.Demand3.{Entry, after, entry, trace}
 use Rattle.model.specs.Theorems.{answers-are-eight, count-fits, demand-3, load-writes-nothing}
 use Rattle.model.specs.Proof.Tests.{both}
 use Rattle.hub.specs.Entries.{Returns}
-use Rattle.hub.specs.Runs.{Demand3OfRuns, Loads, Run, Seen, Step, answerIn, countIn, ends, entryOf, octetsIn, step}
+use Rattle.hub.specs.Runs.{Demand3OfRuns, Loads, Run, Seen, Step, answerIn, countIn, ends, entryOf, names, octetsIn, step}
 use Rattle.hub.specs.Runs as Runs
 
 -- 1. What a number says -------------------------------------------------------------------------------------------------------------------------
@@ -84,6 +84,7 @@ run-more s next end x xs a b = record {
 run-of : (s end : Octets) (xs : List Seen) → Run s xs end → RunOf s xs end
 unfolding callsOf callsWide trace after
 run-of s end xs ends = record { wide = refl; seen = refl; state = refl }
+run-of s end xs (names k more) = run-of s end xs more
 run-of s end (x ∷ xs) (step {next = n} k more) = run-more s n end x xs (step-of s (x .call) (x .returned) (x .reply) n k) (run-of n end xs more)
 
 -- 4. Demand 3 -----------------------------------------------------------------------------------------------------------------------------------

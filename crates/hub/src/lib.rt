@@ -1,9 +1,9 @@
-// The hub: the order of a call, and the seven functions that C calls.
+// The hub: the order of a call, and the eight functions that C calls: 01's seven, and one that tells a name.
 ghost use mathlib.Core.Path.{_≡_};
 ghost use Prim.Native.Nat.{_≤_};
 ghost use lib.ListN.{length};
 ghost use Rattle.model.specs.Hub as M;
-ghost use Rattle.model.specs.Meanings.{meaning, hubCommand, hubReport, hubClock, hubPlug, hubUnplug, hubSave, hubLoad};
+ghost use Rattle.model.specs.Meanings.{meaning, hubCommand, hubReport, hubClock, hubPlug, hubUnplug, hubSave, hubLoad, hubName};
 ghost use Rattle.model.specs.Answers.{countOf};
 ghost use Rattle.replies.specs.Answers.{Gives};
 ghost use Rattle.hub.specs.Entries.{packed, Returns};
@@ -127,6 +127,19 @@ fn save(state: &[u8], reply: &mut [u8]) -> Answer
     Answer::BadState
 }
 
+// The used part of a name.
+fn name(state: &[u8], index: u64, which: u64, reply: &mut [u8]) -> Answer
+    ensures { λ r. ⌜ Gives (hubName (now (state .entry)) index which (length (now (reply .entry)))) r (now (reply .entry)) (now (reply .exit)) (now (state .entry)) ⌝ }
+{
+    if checks::well_formed(state) {
+        if 1024 <= reply.len() {
+            return information::tell_name(state, index, which, reply);
+        }
+        return Answer::SmallBuffer;
+    }
+    Answer::BadState
+}
+
 // C's call of a command.
 #[no_mangle]
 pub extern "C" fn hub_command(state: &mut [u8], packet: &[u8], reply: &mut [u8]) -> u64
@@ -204,4 +217,13 @@ pub extern "C" fn hub_load(state: &mut [u8], image: &[u8]) -> u64
 {
     let a = restore::load(state, image);
     replies::number(a)
+}
+
+// C's question for a name: the state is only read.
+#[no_mangle]
+pub extern "C" fn hub_name(state: &[u8], index: u64, which: u64, reply: &mut [u8]) -> u64
+    ensures { λ r. ⌜ Returns (hubName (now (state .entry)) index which (length (now (reply .entry)))) r (now (reply .entry)) (now (reply .exit)) (now (state .entry)) ⌝ }
+{
+    let a = name(state, index, which, reply);
+    pack(a)
 }

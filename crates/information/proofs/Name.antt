@@ -1,29 +1,33 @@
--- Set Local Name: from what its steps leave to what the model says of it, over plain values.
+-- Set Local Name, and the names told: from what their steps leave to what the model says of it, over plain values.
 -- Assumes nothing.
 use mathlib.Core.Path.{_≡_, refl, sym, _∙_}
 use Prim.Native.Nat.{ℕ, _+_, _-_, _≤_, _<_}
 use native.Mathlib.Omega.{arith}
 use mathlib.Core.Bool.{Bool, true, false}
 use mathlib.Core.List.{[], _++_, append-nil}
+use mathlib.Core.Option.{some}
 use lib.ListN.{length, getD, take, drop, length-append}
 use lib.Dec.{lit≤}
 use lib.Seq.{take-all}
-use borrow.Author.Tests.{eq-eqb, ne-eqb}
-use Rattle.model.specs.Octets.{Octets, octet, same, event, commandComplete, commandStatus}
-use Rattle.model.specs.State.{Controller, nameEnds, shortNameEnds, withHost, withName}
+use borrow.Author.Tests.{eq-eqb, ne-eqb, lt-ltb, le-ltb}
+use Rattle.model.specs.Octets.{Octets, octet, same, usedPart, event, commandComplete, commandStatus}
+use Rattle.model.specs.State.{Controller, nameEnds, shortNameEnds, namePart, withHost, withName}
 use Rattle.model.specs.Reasons.{firstOf, statusOf, nameNotEnded, shortNameNotEnded}
 use Rattle.model.specs.Rules.{refuse, done}
 use Rattle.model.specs.Immediate.{unless, sized, setLocalName}
+use Rattle.model.specs.Hub.{finished, badArgument, answerOf, octetsOf, stateOf}
 use Rattle.model.specs.Layout.{encode, decode}
+use Rattle.model.specs.Meanings.{nameOut, stateOk}
+use Rattle.model.specs.Proof.Demand3.{state-back}
 use Rattle.octets.specs.Parts.{part, placeAt, writeAt}
-use Rattle.layout.specs.Places.{Ready, controllerOf, placeOf, putController, sizes}
-use Rattle.layout.specs.Reads.{name-at}
+use Rattle.layout.specs.Places.{Ready, controllerOf, placeOf, presentAt, putController, ready, sizes}
+use Rattle.layout.specs.Reads.{absent-controller, name-at, present-controller}
 use Rattle.replies.specs.Answers.{Gives}
 use Rattle.model.specs.declared.Answer.{Answer}
-use Rattle.model.specs.declared.Answer.the-variants.{Done, Refused}
+use Rattle.model.specs.declared.Answer.the-variants.{Done, Refused, BadArgument}
 use Rattle.replies.proofs.Laws.{length-complete, length-event, then}
-use Rattle.outcomes.specs.Outcomes.{served}
-use Rattle.outcomes.specs.Endings.{served-length, served-status, served-done}
+use Rattle.outcomes.specs.Outcomes.{named, served}
+use Rattle.outcomes.specs.Endings.{ends-done, ends-silent, served-length, served-status, served-done}
 
 -- what the rule says, case by case
 size-true : (ps : Octets) → length ps ≡ 260 → setLocalName .size ps ≡ true
@@ -104,3 +108,30 @@ module _ (s : Octets) (i : ℕ) (ps d d′ : Octets) (r : Answer) (g : Ready s i
 pub name-fits : (i place : ℕ) → i < 4 → place ≡ placeOf i 4 → place + 260 ≤ 16116
 unfolding placeOf placeAt sizes
 name-fits i place l e = omega arith
+
+-- The names told ------------------------------------------------------------------------------------------------------------------------------
+
+-- no controller there: 6
+pub told-absent : (s d : Octets) (i which : ℕ) → stateOk s ≡ true → presentAt s i ≡ false → Gives (named s i which) BadArgument d d s
+unfolding named nameOut octetsOf stateOf answerOf
+told-absent s d i which ok e = rw (absent-controller s i e) (ends-silent s d badArgument BadArgument ok refl refl refl refl)
+
+-- neither the name nor the short name is asked for: 6
+pub told-neither : (s d : Octets) (i which : ℕ) → stateOk s ≡ true → presentAt s i ≡ true → 2 ≤ which → Gives (named s i which) BadArgument d d s
+unfolding named nameOut octetsOf stateOf answerOf
+told-neither s d i which ok e l = rw (present-controller s i (ready s i ok e), none-such) (ends-silent s d badArgument BadArgument ok refl refl refl refl)
+  where
+    none-such : nameOut (decode s .plain) which (some (controllerOf s i)) ≡ badArgument
+    none-such = rw (le-ltb which 2 l, nameOut)
+
+-- else the used part is the reply
+pub told-used : (s d d′ name : Octets) (i which : ℕ) → stateOk s ≡ true → presentAt s i ≡ true → which < 2 → 1024 ≤ length d
+    → (name ≡ usedPart (namePart which (controllerOf s i .host .name))) × (length name ≤ 249) → d′ ≡ writeAt d 0 name
+    → Gives (named s i which) (Done (length name)) d d′ s
+unfolding named nameOut
+told-used s d d′ name i which ok e l big n w =
+    rw (present-controller s i (ready s i ok e), one-of)
+    (ends-done s name (decode s .plain) (length name) d d′ s (Done (length name)) refl refl (omega arith) w (state-back s ok))
+  where
+    one-of : nameOut (decode s .plain) which (some (controllerOf s i)) ≡ finished name (decode s .plain)
+    one-of = rw (lt-ltb which 2 l, nameOut, n .0)

@@ -1,4 +1,4 @@
-// The commands that tell of the hub and of a controller: version, commands, indexes, controller information; and the name, which is set here.
+// The commands that tell of the hub and of a controller: version, commands, indexes, controller information; and the names, which are set and told here.
 ghost use mathlib.Core.Path.{_≡_};
 ghost use mathlib.Core.Bool.{true};
 ghost use Prim.Native.Nat.{_+_, _≤_};
@@ -13,7 +13,7 @@ ghost use Rattle.information.specs.General.{Reply, listed};
 ghost use Rattle.information.specs.Controller.{informationHead, informationOf};
 ghost use Rattle.model.specs.Immediate.{readInformation, setLocalName};
 ghost use Rattle.layout.specs.Places.{Ready, controllerOf};
-ghost use Rattle.outcomes.specs.Outcomes.{served};
+ghost use Rattle.outcomes.specs.Outcomes.{named, served};
 use model::Answer;
 use model::Hardware;
 
@@ -174,6 +174,21 @@ pub fn set_local_name(state: &mut [u8], index: u64, ps: &[u8], reply: &mut [u8])
     }
     replies::event(reply, 269, 0x0008, index, ps);
     Answer::Done(535)
+}
+
+// The name of the controller at an index, 0, or its short name, 1, as far as it is used: the one copy is that into the reply.
+pub fn tell_name(state: &[u8], index: u64, which: u64, reply: &mut [u8]) -> Answer
+    requires { ⌜ (stateOk (now state) ≡ true) × (1024 ≤ length (now reply)) ⌝ }
+    ensures { λ r. ⌜ Gives (named (now (state .entry)) index which) r (now (reply .entry)) (now (reply .exit)) (now (state .entry)) ⌝ }
+{
+    if layout::present(state, index) {
+        if which < 2 {
+            let name = layout::used_name(state, index, which);
+            octets::copy_into(reply, 0, name);
+            return Answer::Done(name.len());
+        }
+    }
+    Answer::BadArgument
 }
 
 // Version, manufacturer, supported and current settings, and the class with these hints: what stands between the address and the name.

@@ -5,8 +5,8 @@ ghost use mathlib.Core.Bool.{false, true};
 ghost use mathlib.Core.Option.{none, some};
 ghost use Prim.Native.Nat.{_<_, _≤_};
 ghost use lib.ListN.{length};
-ghost use Rattle.model.specs.Octets.{u16};
-ghost use Rattle.model.specs.State.{flag, plugged, settingsOf, withHost, withName};
+ghost use Rattle.model.specs.Octets.{u16, usedPart};
+ghost use Rattle.model.specs.State.{flag, namePart, plugged, settingsOf, withHost, withName};
 ghost use Rattle.model.specs.Hub.{withOpen};
 ghost use Rattle.model.specs.Layout.{decode, encode};
 ghost use Rattle.model.specs.Meanings.{stateOk};
@@ -40,6 +40,20 @@ pub fn name_place(i: u64) -> usize
     ensures { λ r. ⌜ r ≡ placeOf i 4 ⌝ }
 {
     block_place(i) + 32
+}
+
+// The used part of a name of index i, of the short name where `which` is not 0: the octets where they lie, nothing is copied.
+pub fn used_name(s: &[u8], i: u64, which: u64) -> &[u8]
+    requires { ⌜ (length (now s) ≡ 16116) × (i < 4) ⌝ }
+    ensures { λ r. ⌜ (now r ≡ usedPart (namePart which (controllerOf (now (s .entry)) i .host .name))) × (length (now r) ≤ 249) ⌝ }
+{
+    let at = name_place(i);
+    let mid = at + 249;
+    let end = at + 260;
+    if which == 0 {
+        return octets::used_part(&s[at..mid]);
+    }
+    octets::used_part(&s[mid..end])
 }
 
 // Where table k of index i lies, in the model's order of the tables.

@@ -17,3 +17,4 @@ pub mod Demand3
 pub mod Keeps
 pub mod Room
 pub mod Written
+pub mod Names

@@ -9,7 +9,7 @@ use mathlib.Core.Option.{some}
 use lib.ListN.{length, drop}
 use lib.Dec.{eqb, leb, ltb, lit≤}
 use Rattle.model.specs.Lengths as Lengths
-use Rattle.model.specs.Octets.{Octets, bytes, open-octets}
+use Rattle.model.specs.Octets.{Octets, bytes, octet, open-octets}
 use Rattle.model.specs.State.{Hub, PlainHub, idle, open-state}
 use Rattle.model.specs.Reasons.{open-reasons}
 use Rattle.model.specs.Tables.{open-tables}
@@ -18,7 +18,7 @@ use Rattle.model.specs.Image.{image, load, open-image, reloadedHub}
 use Rattle.model.specs.Hub.{Call, Outcome, Result, answerOf, call, callPlain, clock, command, keep, octetsOf, plug, report, save, stateOf, unplug, within}
 use Rattle.model.specs.WellFormed.{callWide, open-wellformed, plainOk, wellFormed}
 use Rattle.model.specs.Layout.{decode, encode}
-use Rattle.model.specs.Meanings.{badState, hubLoad, hubSave, laidOut, loadMeaning, loadedInto, meaning, stateOk}
+use Rattle.model.specs.Meanings.{badState, hubLoad, hubName, hubSave, laidOut, loadMeaning, loadedInto, meaning, stateOk}
 use Rattle.model.specs.Written.{OneReply, Written, roomOf}
 use Rattle.model.specs.Demand3.{Demand3}
 use Rattle.model.specs.Examples.{dualHardware, fullController, fullHub, fullTable, records}
@@ -26,6 +26,7 @@ use Rattle.model.specs.Proof.Decode.{decode-encode}
 use Rattle.model.specs.Proof.Demand3.{demand3, encode-ok, idle-ok, meaning-is, state-back, state-well, taken}
 use Rattle.model.specs.Proof.Keeps.{keeps-state, load-refused-same, load-state, refused-same, state-exact}
 use Rattle.model.specs.Proof.Load.{load-ok}
+use Rattle.model.specs.Proof.Names.{name-most, name-no-zero, name-same}
 use Rattle.model.specs.Proof.Room.{notSave, room-state}
 use Rattle.model.specs.Proof.RoundTrip.{image-most, load-image}
 use Rattle.model.specs.Proof.SavedAgain.{saved-again}
@@ -190,3 +191,18 @@ room-most (save room) = omega arith
 -- The count of octets written fits 24 bits.
 pub count-fits : (s : Octets) (c : Call) → length (meaning s c .octets) < 2 ^ 24
 count-fits s c = omega (arith, no-reply-longer s c, room-most c)
+
+-- Names -----------------------------------------------------------------------------------------------------------------------------------------
+
+-- Asking for a name changes no state.
+pub name-changes-nothing : (s : Octets) (index which room : ℕ) → hubName s index which room .state ≡ s
+name-changes-nothing = name-same
+
+-- At most 248 octets are told of a name.
+pub no-name-longer : (s : Octets) (index which room : ℕ) → length (hubName s index which room .octets) ≤ 248
+no-name-longer = name-most
+
+-- No zero octet is among them.
+pub no-zero-in-a-name : (s : Octets) (index which room k : ℕ) → k < length (hubName s index which room .octets)
+    → octet (hubName s index which room .octets) k ≡ 0 → ⊥
+no-zero-in-a-name = name-no-zero

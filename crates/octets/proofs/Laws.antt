@@ -1,5 +1,5 @@
 -- Laws that the proofs of this crate cite, over plain lists and numbers.
-use mathlib.Core.Path.{_≡_, refl, sym}
+use mathlib.Core.Path.{_≡_, refl, ap, sym}
 use Prim.Native.Nat.{ℕ, suc, _+_, _*_, _-_, _≤_, _<_}
 use native.Mathlib.Omega.{arith}
 use native.Mathlib.Nat.{add-zero, sub-zero}
@@ -8,10 +8,11 @@ use mathlib.Core.Bool.{true, false}
 use mathlib.Core.List.{List, [], _∷_, _++_}
 use lib.ListN.{length, getD, take, drop, set, replicate, drop-of-length-le}
 use lib.Seq.{drop-cons, take-add, drop-drop}
+use lib.Dec.{eqb}
 use borrow.Author.Tests.{eq-eqb, ne-eqb}
-use Rattle.model.specs.Octets.{u16, u32, number, same}
+use Rattle.model.specs.Octets.{Octets, u16, u32, number, same, usedPart}
+use Rattle.model.specs.Proof.Tests.{either}
 use Rattle.octets.specs.Parts.{part, writeAt}
-use Rattle.octets.specs.Names.{usedPart, used-zero, used-more}
 
 -- READING -------------------------------------------------------------------------------------------------------------------------------------
 
@@ -166,6 +167,23 @@ unfolding same part
 same-last a b i j n k h = let e : n - k ≡ 0 = omega arith in rw e
 
 -- NAMES ---------------------------------------------------------------------------------------------------------------------------------------
+
+-- a zero ends the used part
+used-zero : (x : ℕ) (xs : Octets) → x ≡ 0 → usedPart (x ∷ xs) ≡ []
+unfolding usedPart
+used-zero x xs e = rw (eq-eqb x 0 e, usedPart)
+
+-- another octet belongs to it
+used-more : (x : ℕ) (xs : Octets) → (x ≡ 0 → ⊥) → usedPart (x ∷ xs) ≡ x ∷ usedPart xs
+unfolding usedPart
+used-more x xs n = rw (ne-eqb x 0 n, usedPart)
+
+-- it is the beginning of the name
+pub take-used : (o : Octets) → take (length (usedPart o)) o ≡ usedPart o
+unfolding usedPart
+take-used [] = refl
+take-used (x ∷ xs) =
+    either {A = Octets} (λ u. take (length u) (x ∷ xs) ≡ u) (eqb x 0) (λ _. refl) (λ _. ap {B = Octets} (λ u. x ∷ u) (take-used xs))
 
 -- at a zero the used part ends
 pub used-stop : (o : List ℕ) (i : ℕ) → i < length o → getD o i 0 ≡ 0 → i ≡ i + length (usedPart (drop i o))

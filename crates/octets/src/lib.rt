@@ -3,9 +3,9 @@ ghost use mathlib.Core.Path.{_≡_};
 ghost use Prim.Native.Nat.{_+_, _*_, _≤_, _<_};
 ghost use mathlib.Core.List.{_∷_, []};
 ghost use lib.ListN.{length, replicate};
-ghost use Rattle.model.specs.Octets.{le16, le32, be16, be32, u16, u32, number, allZero, same};
+ghost use Rattle.model.specs.Octets.{le16, le32, be32, u16, u32, number, allZero, same, usedPart};
 ghost use Rattle.octets.specs.Parts.{part, writeAt};
-ghost use Rattle.octets.specs.Names.{usedPart};
+ghost use Rattle.octets.specs.Numbers.{little};
 
 // An octet as a number of 64 bits.
 pub fn wide(x: u8) -> u64
@@ -28,6 +28,23 @@ pub fn u32_at(s: &[u8], at: usize) -> u64
     ensures { λ r. ⌜ (r ≡ u32 (now (s .entry)) at) × (r < 4294967296) ⌝ }
 {
     u16_at(s, at) + 65536 * u16_at(s, at + 2)
+}
+
+// The number in the seven octets from the place `at` on, low octet first, as an address and its type spell it: two loads of four octets
+// that share one.
+pub fn u56_at(s: &[u8], at: usize) -> u64
+    requires { ⌜ at + 7 ≤ length (now s) ⌝ }
+    ensures { λ r. ⌜ (r ≡ little (part (now (s .entry)) at 7)) × (r < 72057594037927936) ⌝ }
+{
+    u32_at(s, at) + 4294967296 * (u32_at(s, at + 3) / 256)
+}
+
+// The number in the eight octets from the place `at` on, low octet first.
+pub fn u64_at(s: &[u8], at: usize) -> u64
+    requires { ⌜ at + 8 ≤ length (now s) ⌝ }
+    ensures { λ r. ⌜ r ≡ little (part (now (s .entry)) at 8) ⌝ }
+{
+    u32_at(s, at) + 4294967296 * u32_at(s, at + 4)
 }
 
 // The number in the two octets from the place `at` on, high octet first.
@@ -80,15 +97,6 @@ pub fn put32(s: &mut [u8], at: usize, v: u64)
     s[at + 1] = (v / 256 % 256) as u8;
     s[at + 2] = (v / 65536 % 256) as u8;
     s[at + 3] = (v / 16777216 % 256) as u8;
-}
-
-// Writes v in two octets from the place `at` on, high octet first.
-pub fn put_be16(s: &mut [u8], at: usize, v: u64)
-    requires { ⌜ at + 2 ≤ length (now s) ⌝ }
-    ensures { λ _. ⌜ now (s .exit) ≡ writeAt (now (s .entry)) at (be16 v) ⌝ }
-{
-    s[at] = (v / 256 % 256) as u8;
-    s[at + 1] = (v % 256) as u8;
 }
 
 // Writes v in four octets from the place `at` on, high octet first.

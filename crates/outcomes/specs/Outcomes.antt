@@ -3,12 +3,12 @@
 use Prim.Native.Nat.{ℕ}
 use mathlib.Core.Option.{some}
 use Rattle.model.specs.Octets.{Octets}
-use Rattle.model.specs.State.{PlainHub}
+use Rattle.model.specs.State.{PlainHub, controllerAt}
 use Rattle.model.specs.Rules.{ImmediateRule, RadioRule}
 use Rattle.model.specs.Commands.{rule}
 use Rattle.model.specs.Hub.{Outcome, Result, keep, commandOut, immediateAt, radioAt, generalOut, byRule, reportOut}
 use Rattle.model.specs.Layout.{decode}
-use Rattle.model.specs.Meanings.{laidOut}
+use Rattle.model.specs.Meanings.{laidOut, nameOut}
 use Rattle.layout.specs.Places.{controllerOf, openAt}
 
 -- an outcome on the state s, with the open commands as they were
@@ -34,3 +34,7 @@ dispatched s i code ps = laidOut (commandOut (decode s) i code ps (byRule (decod
 -- a report to an index, with room for a reply
 unfoldable pub reported : Octets → ℕ → ℕ → Result Octets
 reported s i status = laidOut (reportOut (decode s) i status (openAt s i))
+
+-- what is told of a name of the controller at an index, with room for it
+unfoldable pub named : Octets → ℕ → ℕ → Result Octets
+named s i which = ended s (nameOut (decode s .plain) which (controllerAt (decode s .plain) i))

@@ -1,6 +1,6 @@
 -- The way from a call to the part that serves it: each test that the code makes, as one step of the model's meaning.
 use Prim.Native.Nat.{ℕ, _≤_, _<_}
-use mathlib.Core.Path.{_≡_, refl, ap}
+use mathlib.Core.Path.{_≡_, refl, ap, _∙_}
 use mathlib.Core.Bool.{Bool, true, false}
 use mathlib.Core.Option.{Option, none, some}
 use borrow.Author.Tests.{lt-ltb, le-ltb}
@@ -14,10 +14,10 @@ use Rattle.model.specs.Commands.{rule}
 use Rattle.model.specs.Hub.{Call, command, report, clock, plug, unplug, save, Outcome, finished, refused, badPacket, noRoom, anyway, call, callPlain, commandOut, underWay, indexOf, codeOf, paramsOf, packetOk, verdict, byRule, byStatus, immediateAt, radioAt, within, clockOut, plugOut, unplugOut, unplugged}
 use Rattle.model.specs.Image.{image}
 use Rattle.model.specs.Layout.{decode}
-use Rattle.model.specs.Meanings.{stateOk, laidOut, meaning}
+use Rattle.model.specs.Meanings.{stateOk, laidOut, meaning, nameOut, hubName}
 use Rattle.layout.specs.Places.{Ready, openAt, presentAt}
 use Rattle.layout.specs.Reads.{present-controller, absent-controller}
-use Rattle.outcomes.specs.Outcomes.{ended, general, served, contended, dispatched, reported}
+use Rattle.outcomes.specs.Outcomes.{ended, general, served, contended, dispatched, reported, named}
 
 -- 1. Answer 5 -----------------------------------------------------------------------------------------------------------------------------------
 
@@ -156,3 +156,20 @@ save-small s room ok l = rw (meaning-well s (save room) ok, within-small 16014 r
 pub save-whole : (s : Octets) (room : ℕ) → stateOk s ≡ true → 16014 ≤ room → meaning s (save room) ≡ ended s (finished (image (decode s .plain)) (decode s .plain))
 unfolding call callPlain ended
 save-whole s room ok l = rw (meaning-well s (save room) ok, within-enough 16014 room (finished (image (decode s .plain)) (decode s .plain)) l)
+
+-- a name is told in the same order: what is asked of a well-formed state is the room, then the index
+name-well : (s : Octets) (i which room : ℕ) → stateOk s ≡ true
+    → hubName s i which room ≡ ended s (within 1024 room (nameOut (decode s .plain) which (controllerAt (decode s .plain) i)))
+unfolding hubName ended laidOut
+name-well s i which room ok = rw (ok, hubName)
+
+-- too short a reply buffer: answer 4
+pub name-small : (s : Octets) (i which room : ℕ) → stateOk s ≡ true → room < 1024 → hubName s i which room ≡ ended s noRoom
+name-small s i which room ok l =
+    name-well s i which room ok ∙ ap (ended s) (within-small 1024 room (nameOut (decode s .plain) which (controllerAt (decode s .plain) i)) l)
+
+-- with room, what stands at the index tells
+pub name-whole : (s : Octets) (i which room : ℕ) → stateOk s ≡ true → 1024 ≤ room → hubName s i which room ≡ named s i which
+unfolding named
+name-whole s i which room ok l =
+    name-well s i which room ok ∙ ap (ended s) (within-enough 1024 room (nameOut (decode s .plain) which (controllerAt (decode s .plain) i)) l)

@@ -14,6 +14,13 @@ ghost use Rattle.model.specs.Tables.{ruleAt};
 ghost use Rattle.octets.specs.Parts.{part};
 ghost use Rattle.records.specs.Slots.{recordsAt};
 ghost use Rattle.records.specs.Marks.{markOf, marked};
+ghost use Rattle.records.specs.Identities.{identityOf, sameIdentity};
+
+// What no two records of a table may share, of up to 16 octets, as two words: the first eight octets and those behind, low octet first.
+pub struct Identity {
+    pub low: u64,
+    pub high: u64,
+}
 
 // The record size of table k.
 pub fn size_of(k: usize) -> usize
@@ -156,9 +163,40 @@ pub fn record_ok(k: usize, s: &[u8], at: usize) -> bool
     device_ok(s, at)
 }
 
+// The identity of the record of table k at a place: a UUID, or an address with its type, of long term keys behind the octet Master.
+pub fn identity_at(k: usize, s: &[u8], at: usize) -> Identity
+    requires { ⌜ (k < 6) × (at + ruleAt k .size ≤ length (now s)) ⌝ }
+    ensures { λ r. ⌜ r ≡ identityOf k (part (now (s .entry)) at (ruleAt k .size)) ⌝ }
+{
+    if k == 0 {
+        let low = octets::u64_at(s, at);
+        let high = octets::u64_at(s, at + 8);
+        return Identity { low, high };
+    }
+    let address = octets::u56_at(s, at);
+    if k == 2 {
+        let low = octets::wide(s[at + 8]) + 256 * address;
+        return Identity { low, high: 0 };
+    }
+    Identity {
+        low: address,
+        high: 0,
+    }
+}
+
+// Whether two identities are one.
+pub fn same_identity(a: Identity, b: Identity) -> bool
+    ensures { λ r. ⌜ r ≡ sameIdentity a b ⌝ }
+{
+    if a.low == b.low {
+        return a.high == b.high;
+    }
+    false
+}
+
 // Whether the records of table k at two places have one identity. The octet that most often tells two apart is compared first: of UUIDs
 // the low octet of the 16-bit number that the common ones hold, of addresses the first.
-pub fn same_identity(k: usize, s: &[u8], a: usize, b: usize) -> bool
+fn same_at(k: usize, s: &[u8], a: usize, b: usize) -> bool
     requires { ⌜ (k < 6) × (a + ruleAt k .size ≤ length (now s)) × (b + ruleAt k .size ≤ length (now s)) ⌝ }
     ensures { λ r. ⌜ r ≡ same (ruleAt k .key (part (now (s .entry)) a (ruleAt k .size))) (ruleAt k .key (part (now (s .entry)) b (ruleAt k .size))) ⌝ }
 {
@@ -218,7 +256,7 @@ fn repeated(k: usize, s: &[u8], at: usize, place: usize, n: usize, w: u64) -> bo
             return false;
         }
         if word % 2 == 1 {
-            if same_identity(k, s, at, next) {
+            if same_at(k, s, at, next) {
                 return true;
             }
         }

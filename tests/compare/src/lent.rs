@@ -69,10 +69,27 @@ impl<T: Target> Lent<T> {
     /// The same with a state buffer of another length.
     pub fn call_with_length(&mut self, call: &Call, length: usize) -> Result<Reply, Difference> {
         let room = call.room();
+        self.before_call(room);
+        let number = self.target.call(&mut self.state[..length], call, &mut self.reply[..room]);
+        self.after_call(number, room, length)
+    }
+
+    /// Asks for a name, with a state buffer of a length.
+    pub fn name(&mut self, index: u64, which: u64, room: usize, length: usize) -> Result<Reply, Difference> {
+        self.before_call(room);
+        let number = self.target.name(&self.state[..length], index, which, &mut self.reply[..room]);
+        self.after_call(number, room, length)
+    }
+
+    /// Fills the reply buffer, and keeps what the state is.
+    fn before_call(&mut self, room: usize) {
         self.fill = self.fill.wrapping_mul(5).wrapping_add(0x3B);
         self.reply[..room + GUARD].fill(self.fill);
         self.before.copy_from_slice(&self.state);
-        let number = self.target.call(&mut self.state[..length], call, &mut self.reply[..room]);
+    }
+
+    /// What a call gave; an error if octets changed that it may not touch.
+    fn after_call(&self, number: u64, room: usize, length: usize) -> Result<Reply, Difference> {
         let (answer, count) = parts(number)?;
         need(count <= room, || format!("count {count} in a room of {room}"))?;
         let untouched = self.reply[count..room + GUARD].iter().all(|octet| *octet == self.fill);

@@ -7,6 +7,7 @@
 pub mod layout;
 pub mod lent;
 pub mod mirror;
+pub mod names;
 pub mod run;
 pub mod script;
 pub mod shrink;

@@ -41,6 +41,15 @@ extern "C" {
     fn hub_unplug(state: *mut u8, state_len: usize, index: u64, reply: *mut u8, reply_len: usize) -> u64;
     /// The image is asked for.
     fn hub_save(state: *mut u8, state_len: usize, reply: *mut u8, reply_len: usize) -> u64;
+    /// A name is asked for.
+    fn hub_name(
+        state: *const u8,
+        state_len: usize,
+        index: u64,
+        which: u64,
+        reply: *mut u8,
+        reply_len: usize,
+    ) -> u64;
     /// A state is made from an image.
     fn hub_load(state: *mut u8, state_len: usize, image: *const u8, image_len: usize) -> u64;
 }
@@ -81,6 +90,11 @@ impl Target for Library {
                 Call::Save { .. } => hub_save(state, state_len, reply, reply_len),
             }
         }
+    }
+
+    fn name(&mut self, state: &[u8], index: u64, which: u64, reply: &mut [u8]) -> u64 {
+        // As above.
+        unsafe { hub_name(state.as_ptr(), state.len(), index, which, reply.as_mut_ptr(), reply.len()) }
     }
 
     fn load(&mut self, state: &mut [u8], image: &[u8]) -> u64 {

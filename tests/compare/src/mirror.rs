@@ -58,6 +58,13 @@ impl Target for Mirror {
         number(&given, reply)
     }
 
+    fn name(&mut self, state: &[u8], index: u64, which: u64, reply: &mut [u8]) -> u64 {
+        match self.read(state) {
+            Some(hub) => number(&hub.name(index, which, reply.len()), reply),
+            None => answer::STATE.into(),
+        }
+    }
+
     fn load(&mut self, state: &mut [u8], image: &[u8]) -> u64 {
         if state.len() != Mirror::STATE_LEN {
             return answer::STATE.into();

@@ -2,6 +2,7 @@
 
 use crate::layout::{cleared, encode, encode_at_once, same_state};
 use crate::lent::{Difference, Lent};
+use crate::names::names_agree;
 use crate::target::Target;
 use calls::lists::Lists;
 use reference::codes::{answer, CONTROLLERS, IMAGE_ROOM, REPLY_ROOM};
@@ -136,6 +137,7 @@ impl<T: Target> Comparison<T> {
             self.calls += 1;
             if result.is_ok() && list.len() % SAVES == 0 {
                 result = images_agree(&mut self.lent, &hub.save(IMAGE_ROOM));
+                result = result.and_then(|()| names_agree(&mut self.lent, &hub));
             }
         }
         let result = result.and_then(|()| self.finish(&image, &hub, &list));
@@ -160,6 +162,7 @@ impl<T: Target> Comparison<T> {
     /// commands are cleared.
     fn finish(&mut self, image: &[u8], hub: &Hub, list: &[Traced]) -> Result<(), Difference> {
         images_agree(&mut self.lent, &hub.save(IMAGE_ROOM))?;
+        names_agree(&mut self.lent, hub)?;
         let mut plain = AtOnceHub::new();
         plain.load(image);
         for expected in reduce(list) {

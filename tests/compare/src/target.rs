@@ -11,6 +11,9 @@ pub trait Target {
     /// Any call but load. The reply buffer is as long as the call's room.
     fn call(&mut self, state: &mut [u8], call: &Call, reply: &mut [u8]) -> u64;
 
+    /// The used part of a name; the state is only read.
+    fn name(&mut self, state: &[u8], index: u64, which: u64, reply: &mut [u8]) -> u64;
+
     /// A load.
     fn load(&mut self, state: &mut [u8], image: &[u8]) -> u64;
 }

@@ -31,6 +31,8 @@ enum Fault {
     Kept,
     /// A controller's version is stored in the wrong place, where no reply shows it.
     Place,
+    /// The zero that ends a name is told too.
+    Name,
     /// Images are taken that should not be.
     Image,
     /// A state buffer that is too long is taken.
@@ -85,6 +87,18 @@ impl Target for Faulty {
             _ => {}
         }
         number
+    }
+
+    fn name(&mut self, state: &[u8], index: u64, which: u64, reply: &mut [u8]) -> u64 {
+        let number = self.inner.name(state, index, which, reply);
+        let count = (number >> 8) as usize;
+        match self.fault {
+            Fault::Name if count > 0 => {
+                reply[count] = 0;
+                number + 256
+            }
+            _ => number,
+        }
     }
 
     fn load(&mut self, state: &mut [u8], image: &[u8]) -> u64 {
@@ -176,6 +190,7 @@ fn every_fault_is_found() {
         Fault::StaysOpen,
         Fault::Kept,
         Fault::Place,
+        Fault::Name,
         Fault::Image,
         Fault::Length,
     ];

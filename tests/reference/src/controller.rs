@@ -29,6 +29,16 @@ impl LocalName {
         out.extend_from_slice(&self.short_name);
     }
 
+    /// The used part of the name, number 0, or of the short name, number 1: its octets up to the first zero.
+    pub fn used(&self, which: u64) -> Option<&[u8]> {
+        let octets = match which {
+            0 => &self.name[..],
+            1 => &self.short_name[..],
+            _ => return None,
+        };
+        octets.split(|octet| *octet == 0).next()
+    }
+
     /// The 260 octets.
     pub fn octets(&self) -> Vec<u8> {
         let mut out = Vec::with_capacity(NAME + SHORT_NAME);

@@ -162,6 +162,17 @@ impl Hub {
         save(&self.state, room)
     }
 
+    /// The used part of a name, which a host asks for; nothing changes.
+    pub fn name(&self, index: u64, which: u64, room: usize) -> Reply {
+        if let Some(reply) = room_fault(room, REPLY_ROOM) {
+            return reply;
+        }
+        match self.state.controller(index).and_then(|controller| controller.local_name.used(which)) {
+            Some(octets) => done(octets.to_vec()),
+            None => Reply::bare(answer::ARGUMENT),
+        }
+    }
+
     /// Makes the hub from an image; a refused image leaves it as it was.
     pub fn load(&mut self, image: &[u8]) -> Reply {
         match image::load(image) {

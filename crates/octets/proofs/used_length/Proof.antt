@@ -2,7 +2,7 @@
 use mathlib.Core.Path.{_≡_, _∙_}
 use Prim.Native.Nat.{_+_, _-_, _≤_}
 use native.Mathlib.Omega.{arith}
-use Rattle.octets.specs.Names.{usedPart}
+use Rattle.model.specs.Octets.{usedPart}
 use lib.ListN.{length, drop}
 use Rattle.octets.proofs.Laws.{used-stop, used-turn, used-first, used-last}
 use borrow.Author.Needs.{needs}

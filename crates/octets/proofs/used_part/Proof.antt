@@ -1,5 +1,5 @@
 -- `octets::used_part` meets its contract. The beginning of the name that is as long as its used part is its used part.
-use Rattle.octets.specs.Names.{take-used}
+use Rattle.octets.proofs.Laws.{take-used}
 use borrow.Author.Needs.{needs}
 use Rattle.octets.proofs.used_part.Statement.{statement}
 use Rattle.octets.proofs.used_part.Tie as tie

@@ -32,11 +32,11 @@ loop-holds c = (c .size-of .ensures, rw (c .size-of .ensures) (search needs), rw
 returns : tie.Need-returns Inv-loop μ-loop
 returns c = any-none (ruleAt (c .before .before .before .before .before .args .k)) (now (c .before .before .before .before .before .args .s)) _ _ (c .before .before .loop .inv .0) (c .before .before .loop .next) _ _ (c .if1 .taken) ∙ c .before .before .loop .inv .2
 
-same-identity-requires : tie.Need-same-identity-requires Inv-loop μ-loop
-same-identity-requires c κs = let r = room _ _ _ _ (search needs) (c .before .before .before .loop .inv .1) in (omega arith, omega arith, omega arith)
+same-at-requires : tie.Need-same-at-requires Inv-loop μ-loop
+same-at-requires c κs = let r = room _ _ _ _ (search needs) (c .before .before .before .loop .inv .1) in (omega arith, omega arith, omega arith)
 
 returns-2 : tie.Need-returns-2 Inv-loop μ-loop
-returns-2 c = any-hit (ruleAt (c .before .before .before .before .before .before .before .before .args .k)) (now (c .before .before .before .before .before .before .before .before .args .s)) _ _ (c .before .before .before .before .before .loop .inv .0) (c .before .before .before .before .before .loop .next) _ _ (search needs) (c .before .before .if2 .taken) (sym (c .before .same-identity .ensures) ∙ c .if3 .taken) ∙ c .before .before .before .before .before .loop .inv .2
+returns-2 c = any-hit (ruleAt (c .before .before .before .before .before .before .before .before .args .k)) (now (c .before .before .before .before .before .before .before .before .args .s)) _ _ (c .before .before .before .before .before .loop .inv .0) (c .before .before .before .before .before .loop .next) _ _ (search needs) (c .before .before .if2 .taken) (sym (c .before .same-at .ensures) ∙ c .if3 .taken) ∙ c .before .before .before .before .before .loop .inv .2
 
 add-next : tie.Need-add-next Inv-loop μ-loop
 add-next c = let r = room _ _ _ _ (search needs) (c .before .before .before .loop .inv .1) in omega arith
@@ -70,7 +70,7 @@ repeated-spec =
     size-of-requires
     loop-holds
     returns
-    same-identity-requires
+    same-at-requires
     returns-2
     add-next
     sub-rest
