@@ -20,7 +20,7 @@ use Rattle.model.specs.Proof.Tables.{length-chop}
 use Rattle.model.specs.Tables.{ruleAt}
 use Rattle.model.specs.Proof.Tests.{equal}
 use Rattle.octets.specs.Parts.{part, writeAt}
-use Rattle.table.specs.Slots.{length-loaded, sized-loaded}
+use Rattle.table.proofs.Slots.{length-loaded, sized-loaded}
 use Rattle.layout.specs.Places.{Ready, controllerOf, putController, tablePlace}
 use Rattle.layout.specs.Tables.{table-fits, table-stored}
 use Rattle.replies.specs.Answers.{Gives}

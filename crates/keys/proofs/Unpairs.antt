@@ -21,7 +21,8 @@ use Rattle.model.specs.Proof.Parts.{table-changed}
 use Rattle.model.specs.Tables.{ruleAt}
 use Rattle.model.specs.Proof.Tables.{freed-ok, length-freed}
 use Rattle.octets.specs.Parts.{part, writeAt}
-use Rattle.table.specs.Slots.{Canonical, firstAt, tableAt, holds-first, sized-freed}
+use Rattle.table.specs.Slots.{Canonical, firstAt, tableAt}
+use Rattle.table.proofs.Slots.{holds-first, sized-freed}
 use Rattle.layout.specs.Places.{Ready, controllerOf, putController, tablePlace}
 use Rattle.layout.specs.Change.{controller-fine}
 use Rattle.layout.specs.Tables.{table-at, table-fine, table-long, table-sized, region-at, table-stored}

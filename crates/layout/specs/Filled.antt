@@ -21,7 +21,7 @@ use Rattle.layout.specs.Reads.{absent-open, absent-slot}
 use Rattle.layout.specs.Lens.{Shaped, join-block, piece-write, pieces, regionPieces, shaped, state-is, state-put, withBlock, withSlot, write-in-sized, writeIn}
 use Rattle.model.specs.Hub.{plug}
 use Rattle.layout.specs.Change.{put-controller}
-use Rattle.table.specs.Laws.{word-over}
+use Rattle.table.proofs.Regions.{word-over}
 
 -- 1. A block filled ---------------------------------------------------------------------------------------------------------------------------
 

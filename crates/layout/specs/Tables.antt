@@ -23,11 +23,12 @@ use Rattle.model.specs.Proof.Tables.{table-fit}
 use Rattle.model.specs.Proof.Tests.{and-true, equal, no-way}
 use Rattle.octets.specs.Parts.{drop-take, part, placeAt, writeAt, u32-part}
 use Rattle.layout.specs.Places.{Ready, controllerOf, openAt, placeOf, putController, sizes, tablePlace}
-use Rattle.table.specs.Slots.{tableAt, sized-ok}
+use Rattle.table.specs.Slots.{tableAt}
+use Rattle.table.proofs.Slots.{sized-ok}
 use Rattle.layout.specs.Lens.{inside, pieces, regionPieces}
 use Rattle.layout.specs.Change.{controller-changed, controller-fine, piece-at}
 use Rattle.layout.specs.Kept.{controller-back, controller-ready, host-fine}
-use Rattle.table.specs.Laws.{length-region}
+use Rattle.table.proofs.Regions.{length-region}
 
 -- 1. A table's octets, from the whole or from its region ----------------------------------------------------------------------------------------
 
