@@ -22,7 +22,7 @@ use Rattle.table.specs.Slots.{tableAt}
 use Rattle.table.proofs.Regions.{length-region, length-table, sized-at}
 use Rattle.checks.specs.Tests.{part-add, same-append}
 use Rattle.checks.specs.Slots.{freeZero, region-same}
-use Rattle.layout.specs.Tables.{behind-word}
+use Rattle.layout.proofs.Tables.{behind-word}
 
 -- 1. One table ------------------------------------------------------------------------------------------------------------------------------
 

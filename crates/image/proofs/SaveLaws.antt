@@ -28,9 +28,9 @@ use Rattle.table.specs.Slots.{InUse, NextUsed, tableAt}
 use Rattle.table.proofs.Regions.{length-table, slot-room}
 use Rattle.table.proofs.Walk.{in-use-entries, next-entries}
 use Rattle.layout.specs.Places.{Ready, controllerOf, placeOf, presentAt, tablePlace}
-use Rattle.layout.specs.Reads.{absent-slot, name-at, present-slot}
-use Rattle.layout.specs.Change.{controller-fine}
-use Rattle.layout.specs.Tables.{table-at}
+use Rattle.layout.proofs.Reading.{absent-slot, name-at, present-slot}
+use Rattle.layout.proofs.Change.{controller-fine}
+use Rattle.layout.proofs.Tables.{table-at}
 use Rattle.outcomes.specs.Outcomes.{ended}
 use Rattle.outcomes.specs.Endings.{ends-done}
 use Rattle.replies.specs.Answers.{Gives}

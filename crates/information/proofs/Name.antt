@@ -17,7 +17,7 @@ use Rattle.model.specs.Immediate.{unless, sized, setLocalName}
 use Rattle.model.specs.Layout.{encode, decode}
 use Rattle.octets.specs.Parts.{part, placeAt, writeAt}
 use Rattle.layout.specs.Places.{Ready, controllerOf, placeOf, putController, sizes}
-use Rattle.layout.specs.Reads.{name-at}
+use Rattle.layout.proofs.Reading.{name-at}
 use Rattle.replies.specs.Answers.{Gives}
 use Rattle.model.specs.declared.Answer.{Answer}
 use Rattle.model.specs.declared.Answer.the-variants.{Done, Refused}

@@ -22,7 +22,7 @@ use Rattle.model.specs.Proof.Tests.{equal}
 use Rattle.octets.specs.Parts.{part, writeAt}
 use Rattle.table.proofs.Slots.{length-loaded, sized-loaded}
 use Rattle.layout.specs.Places.{Ready, controllerOf, putController, tablePlace}
-use Rattle.layout.specs.Tables.{table-fits, table-stored}
+use Rattle.layout.proofs.Tables.{table-fits, table-stored}
 use Rattle.replies.specs.Answers.{Gives}
 use Rattle.model.specs.declared.Answer.{Answer}
 use Rattle.model.specs.declared.Answer.the-variants.{Done, Refused}

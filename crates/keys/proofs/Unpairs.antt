@@ -24,9 +24,9 @@ use Rattle.octets.specs.Parts.{part, writeAt}
 use Rattle.table.specs.Slots.{Canonical, firstAt, tableAt}
 use Rattle.table.proofs.Slots.{holds-first, sized-freed}
 use Rattle.layout.specs.Places.{Ready, controllerOf, putController, tablePlace}
-use Rattle.layout.specs.Change.{controller-fine}
-use Rattle.layout.specs.Tables.{table-at, table-fine, table-long, table-sized, region-at, table-stored}
-use Rattle.layout.specs.Kept.{host-fine, controller-ready, controller-back, controller-decoded}
+use Rattle.layout.proofs.Change.{controller-fine}
+use Rattle.layout.proofs.Tables.{table-at, table-fine, table-long, table-sized, region-at, table-stored}
+use Rattle.layout.proofs.Kept.{host-fine, controller-ready, controller-back, controller-decoded}
 use Rattle.records.proofs.Laws.{size-least}
 use Rattle.replies.specs.Answers.{Gives}
 use Rattle.model.specs.declared.Answer.{Answer}

@@ -16,7 +16,7 @@ use Rattle.model.specs.Image.{image}
 use Rattle.model.specs.Layout.{decode}
 use Rattle.model.specs.Meanings.{stateOk, laidOut, meaning}
 use Rattle.layout.specs.Places.{Ready, openAt, presentAt}
-use Rattle.layout.specs.Reads.{present-controller, absent-controller}
+use Rattle.layout.proofs.Reading.{present-controller, absent-controller}
 use Rattle.outcomes.specs.Outcomes.{ended, general, served, contended, dispatched, reported}
 
 -- 1. Answer 5 -----------------------------------------------------------------------------------------------------------------------------------

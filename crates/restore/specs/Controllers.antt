@@ -27,7 +27,7 @@ use Rattle.model.specs.Proof.Tests.{and-true, both, equal}
 use Rattle.octets.specs.Parts.{part}
 use Rattle.rules.specs.Effects.{withSettings}
 use Rattle.layout.specs.Places.{Ready, controllerOf, openAt, presentAt, putController}
-use Rattle.layout.specs.Reads.{absent-open}
+use Rattle.layout.proofs.Reading.{absent-open}
 use Rattle.restore.specs.Filling.{Holds, found, found-some, held-controller, held-open, held-put, held-ready, some-found, withTables}
 use Rattle.model.specs.Proof.Stays.{plugged-ok}
 

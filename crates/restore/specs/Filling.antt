@@ -25,11 +25,11 @@ use Rattle.model.specs.Proof.Tables.{bytes-chop, bytes-drop, loaded-ok}
 use Rattle.model.specs.Proof.Tests.{and-true, no-way}
 use Rattle.octets.specs.Parts.{writeAt}
 use Rattle.layout.specs.Places.{Ready, controllerOf, openAt, putController, tablePlace}
-use Rattle.layout.specs.Reads.{present-slot}
-use Rattle.layout.specs.Change.{controller-fine}
-use Rattle.layout.specs.Lens.{shaped}
-use Rattle.layout.specs.Kept.{encode-controller, encode-open, encode-ready, put-well, same-slot}
-use Rattle.layout.specs.Tables.{table-written}
+use Rattle.layout.proofs.Reading.{present-slot}
+use Rattle.layout.proofs.Change.{controller-fine}
+use Rattle.layout.proofs.Lens.{shaped}
+use Rattle.layout.proofs.Kept.{encode-controller, encode-open, encode-ready, put-well, same-slot}
+use Rattle.layout.proofs.Tables.{table-written}
 use Rattle.model.specs.Proof.Parts.{table-changed}
 
 -- 1. What a reader found ------------------------------------------------------------------------------------------------------------------------

@@ -22,7 +22,7 @@ use Rattle.model.specs.Proof.Stays.{fit-plain, plain-fit, slots-set}
 use Rattle.model.specs.Proof.Tables.{bytes-drop}
 use Rattle.model.specs.Proof.Tests.{and-true}
 use Rattle.layout.specs.Places.{presentAt, putController}
-use Rattle.layout.specs.Kept.{encode-absent}
+use Rattle.layout.proofs.Kept.{encode-absent}
 use Rattle.restore.specs.Filling.{found, found-some, left-octet, some-found}
 
 -- the image is acceptable

@@ -21,7 +21,7 @@ use Rattle.model.specs.Layout.{encode, decode}
 use Rattle.model.specs.Proof.Tests.{no-way}
 use Rattle.octets.specs.Parts.{writeAt}
 use Rattle.layout.specs.Places.{Ready, controllerOf, placeOf, putController}
-use Rattle.layout.specs.Open.{open-nothing, open-command}
+use Rattle.layout.proofs.Open.{open-nothing, open-command}
 use Rattle.replies.specs.Answers.{Gives}
 use Rattle.replies.specs.Frames.{settingsReply, changedEvent}
 use Rattle.model.specs.declared.Answer.{Answer}
