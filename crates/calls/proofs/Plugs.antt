@@ -25,7 +25,7 @@ use Rattle.model.specs.declared.Answer.{Answer}
 use Rattle.model.specs.declared.Answer.the-variants.{Done, BadArgument}
 use Rattle.replies.proofs.Laws.{gives-written, length-event, then}
 use Rattle.outcomes.specs.Outcomes.{ended}
-use Rattle.outcomes.specs.Endings.{ends-silent, ends-done}
+use Rattle.outcomes.proofs.Endings.{ends-silent, ends-done}
 use Rattle.calls.specs.Given.{hardwareGiven}
 use Rattle.model.specs.Proof.Room.{length-status}
 

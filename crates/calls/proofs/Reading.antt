@@ -31,7 +31,7 @@ use Rattle.model.specs.declared.Answer.{Answer}
 use Rattle.model.specs.declared.Answer.the-variants.{Done, BadArgument}
 use Rattle.replies.proofs.Laws.{length-new-settings, then}
 use Rattle.outcomes.specs.Outcomes.{ended}
-use Rattle.outcomes.specs.Endings.{ends-done}
+use Rattle.outcomes.proofs.Endings.{ends-done}
 use Rattle.calls.specs.Ticks.{Ticked, tickEvent, tickedAt}
 use Rattle.calls.proofs.Plugs.{bad-argument}
 use Rattle.model.specs.Proof.Stays.{tick-ok}

@@ -32,7 +32,7 @@ use Rattle.layout.proofs.Reading.{absent-slot, name-at, present-slot}
 use Rattle.layout.proofs.Change.{controller-fine}
 use Rattle.layout.proofs.Tables.{table-at}
 use Rattle.outcomes.specs.Outcomes.{ended}
-use Rattle.outcomes.specs.Endings.{ends-done}
+use Rattle.outcomes.proofs.Endings.{ends-done}
 use Rattle.replies.specs.Answers.{Gives}
 use Rattle.model.specs.declared.Answer.{Answer}
 use Rattle.model.specs.declared.Answer.the-variants.{Done}

@@ -29,7 +29,7 @@ use Rattle.model.specs.declared.Answer.{Answer}
 use Rattle.model.specs.declared.Answer.the-variants.{Done, Refused}
 use Rattle.replies.proofs.Laws.{length-complete, then}
 use Rattle.outcomes.specs.Outcomes.{served}
-use Rattle.outcomes.specs.Endings.{served-length, served-done}
+use Rattle.outcomes.proofs.Endings.{served-length, served-done}
 use Rattle.information.specs.Controller.{informationHead, informationOf}
 use Rattle.information.proofs.Name.{name-fits}
 

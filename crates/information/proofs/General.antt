@@ -24,7 +24,7 @@ use Rattle.replies.specs.Answers.{Gives}
 use Rattle.model.specs.declared.Answer.{Answer}
 use Rattle.model.specs.declared.Answer.the-variants.{Done, Refused}
 use Rattle.outcomes.specs.Outcomes.{general}
-use Rattle.outcomes.specs.Endings.{ends-refused, ends-done}
+use Rattle.outcomes.proofs.Endings.{ends-refused, ends-done}
 use Rattle.information.specs.General.{Reply, listed}
 use Rattle.model.specs.Proof.Room.{length-complete, length-le16}
 

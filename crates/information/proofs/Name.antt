@@ -23,7 +23,7 @@ use Rattle.model.specs.declared.Answer.{Answer}
 use Rattle.model.specs.declared.Answer.the-variants.{Done, Refused}
 use Rattle.replies.proofs.Laws.{length-complete, length-event, then}
 use Rattle.outcomes.specs.Outcomes.{served}
-use Rattle.outcomes.specs.Endings.{served-length, served-status, served-done}
+use Rattle.outcomes.proofs.Endings.{served-length, served-status, served-done}
 
 -- what the rule says, case by case
 size-true : (ps : Octets) → length ps ≡ 260 → setLocalName .size ps ≡ true

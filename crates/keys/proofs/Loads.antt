@@ -27,7 +27,7 @@ use Rattle.replies.specs.Answers.{Gives}
 use Rattle.model.specs.declared.Answer.{Answer}
 use Rattle.model.specs.declared.Answer.the-variants.{Done, Refused}
 use Rattle.outcomes.specs.Outcomes.{served}
-use Rattle.outcomes.specs.Endings.{served-length, served-status, served-done}
+use Rattle.outcomes.proofs.Endings.{served-length, served-status, served-done}
 use Rattle.lists.specs.Lists.{valueChecks}
 use Rattle.keys.specs.Lists.{keyList, ListOf}
 use Rattle.keys.proofs.Checks.{Statuses, FailsWith, fails-with, values-status, first-fails, first-holds, passes-none, append-fails, append-passes}

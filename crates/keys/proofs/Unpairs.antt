@@ -33,7 +33,7 @@ use Rattle.model.specs.declared.Answer.{Answer}
 use Rattle.model.specs.declared.Answer.the-variants.{Done, Refused}
 use Rattle.replies.proofs.Laws.{then, length-event}
 use Rattle.outcomes.specs.Outcomes.{served}
-use Rattle.outcomes.specs.Endings.{served-length, served-address, served-done}
+use Rattle.outcomes.proofs.Endings.{served-length, served-address, served-done}
 use Rattle.keys.specs.Forget.{forgotten, Forgets}
 use Rattle.model.specs.Proof.Room.{length-complete}
 

@@ -34,7 +34,7 @@ use Rattle.replies.proofs.Laws.{gives-written, settings-short}
 use Rattle.rules.specs.Effects.{withSettings, settingsEffect, OnlySettings}
 use Rattle.rules.proofs.Ties.{powered-only, discoverable-only, connectable-only, low-energy-only}
 use Rattle.outcomes.specs.Outcomes.{ended, reported}
-use Rattle.outcomes.specs.Endings.{ends-silent}
+use Rattle.outcomes.proofs.Endings.{ends-silent}
 use Rattle.settings.specs.Opens.{Opens, opens-powered, opens-discoverable, opens-connectable, opens-low-energy, Makes}
 use Rattle.settings.proofs.Bridge.{reply-is}
 use Rattle.model.specs.Proof.Room.{length-status}

@@ -1,11 +1,11 @@
 -- The way from a call to the part that serves it: each test that the code makes, as one step of the model's meaning.
 use Prim.Native.Nat.{ℕ, _≤_, _<_}
-use mathlib.Core.Path.{_≡_, refl, ap}
-use mathlib.Core.Bool.{Bool, true, false}
-use mathlib.Core.Option.{Option, none, some}
+use mathlib.Core.Path.{_≡_}
+use mathlib.Core.Bool.{true, false}
+use mathlib.Core.Option.{none, some}
 use borrow.Author.Tests.{lt-ltb, le-ltb}
 use Rattle.model.specs.Octets.{Octets}
-use Rattle.model.specs.State.{PlainHub, OpenCommand, Hub, controllerAt}
+use Rattle.model.specs.State.{PlainHub, controllerAt}
 use Rattle.model.specs.declared.Hardware.{Hardware}
 use Rattle.model.specs.Reasons.{codeUnknown, controllerAbsent}
 use Rattle.model.specs.Rules.{ImmediateRule, RadioRule, immediate, radio}
