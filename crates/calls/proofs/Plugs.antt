@@ -17,15 +17,15 @@ use Rattle.model.specs.Hub.{Outcome, finished, badArgument, answerOf, octetsOf,
 use Rattle.model.specs.Layout.{encode, decode}
 use Rattle.model.specs.Meanings.{laidOut, stateOk}
 use Rattle.octets.specs.Parts.{part, length-part, writeAt}
-use Rattle.layout.specs.Places.{Ready, emptied, openAt, placeOf, presentAt, putController, ready}
-use Rattle.layout.specs.Reads.{absent-controller, present-controller}
-use Rattle.layout.specs.Open.{open-nothing, open-command}
+use Rattle.layout.specs.Places.{Ready, emptied, openAt, placeOf, presentAt, putController}
+use Rattle.layout.proofs.Reading.{absent-controller, present-controller, ready}
+use Rattle.layout.proofs.Open.{open-nothing, open-command}
 use Rattle.replies.specs.Answers.{Gives}
 use Rattle.model.specs.declared.Answer.{Answer}
 use Rattle.model.specs.declared.Answer.the-variants.{Done, BadArgument}
 use Rattle.replies.proofs.Laws.{gives-written, length-event, then}
 use Rattle.outcomes.specs.Outcomes.{ended}
-use Rattle.outcomes.specs.Endings.{ends-silent, ends-done}
+use Rattle.outcomes.proofs.Endings.{ends-silent, ends-done}
 use Rattle.calls.specs.Given.{hardwareGiven}
 use Rattle.model.specs.Proof.Room.{length-status}
 

@@ -21,9 +21,9 @@ use Rattle.model.specs.WellFormed.{controllerOk, openOk}
 use Rattle.model.specs.Proof.Demand3.{state-long}
 use Rattle.octets.specs.Parts.{writeAt}
 use Rattle.layout.specs.Places.{Ready, controllerOf, openAt, presentAt, putController, withClock}
-use Rattle.layout.specs.Reads.{absent-slot, present-slot}
-use Rattle.layout.specs.Change.{controller-fine}
-use Rattle.layout.specs.Kept.{controller-decoded, controller-ready, host-fine}
+use Rattle.layout.proofs.Reading.{absent-slot, present-slot}
+use Rattle.layout.proofs.Change.{controller-fine}
+use Rattle.layout.proofs.Kept.{controller-decoded, controller-ready, host-fine}
 use Rattle.rules.specs.Effects.{settingsTimer, withSettings}
 use Rattle.rules.proofs.Ties.{tick-only}
 use Rattle.replies.specs.Answers.{Gives}
@@ -31,7 +31,7 @@ use Rattle.model.specs.declared.Answer.{Answer}
 use Rattle.model.specs.declared.Answer.the-variants.{Done, BadArgument}
 use Rattle.replies.proofs.Laws.{length-new-settings, then}
 use Rattle.outcomes.specs.Outcomes.{ended}
-use Rattle.outcomes.specs.Endings.{ends-done}
+use Rattle.outcomes.proofs.Endings.{ends-done}
 use Rattle.calls.specs.Ticks.{Ticked, tickEvent, tickedAt}
 use Rattle.calls.proofs.Plugs.{bad-argument}
 use Rattle.model.specs.Proof.Stays.{tick-ok}

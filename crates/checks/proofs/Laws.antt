@@ -25,7 +25,7 @@ use Rattle.model.specs.Tables.{ruleAt}
 use Rattle.model.specs.Proof.Tests.{and-true, or-true, and-off}
 use Rattle.model.specs.Rules.{setConnectable, setDiscoverable, setLowEnergy, setPowered}
 use Rattle.layout.specs.Places.{base, controllerOf, placeOf, presentAt, sizes}
-use Rattle.layout.specs.Reads.{name-at}
+use Rattle.layout.proofs.Reading.{name-at}
 use Rattle.octets.specs.Parts.{getD-part, length-part, part, placeAt}
 use Rattle.octets.proofs.Laws.{part-suc}
 use Rattle.rules.specs.declared.Decision.{Decision}
@@ -38,7 +38,7 @@ use Rattle.checks.specs.Tables.{drop-part, tableFine, tablesFine, total,
 use Rattle.records.specs.Slots.{no-slots, recordsAt}
 use Rattle.table.specs.Slots.{tableAt}
 use Rattle.checks.specs.Open.{fine-connectable, fine-discoverable, fine-low-energy, fine-none, fine-other, fine-powered, fine-some, openFine, startedFine}
-use Rattle.layout.specs.Tables.{rules-six}
+use Rattle.layout.proofs.Tables.{rules-six}
 
 -- a test of the code, as the model's test
 pub ruleset tests = (eq-eqb, ne-eqb, le-leb, lt-leb, le-ltb, lt-ltb)

@@ -24,7 +24,7 @@ use Rattle.model.specs.Proof.Tables.{byte-at, same-refl}
 use Rattle.model.specs.Proof.Tests.{and-true, both}
 use Rattle.octets.specs.Parts.{getD-part, length-part, part, placeAt, u16-part}
 use Rattle.layout.specs.Places.{base, controllerOf, placeOf, sizes}
-use Rattle.layout.specs.Reads.{hardware-at, hardwareFrom, name-at, open-some, settings-at, settingsFrom, controller-some}
+use Rattle.layout.proofs.Reading.{hardware-at, hardwareFrom, name-at, open-some, settings-at, settingsFrom, controller-some}
 use Rattle.rules.specs.Decisions.{settingsOk}
 use Rattle.rules.proofs.Ties.{timer-ok-is}
 use Rattle.checks.specs.Tests.{and-on, one-test, part-bytes, same-append, same-zeros, u16-lt}

@@ -15,7 +15,7 @@ use Rattle.model.specs.State.{flag}
 use Rattle.model.specs.Layout.{hardwarePart, settingsPart}
 use Rattle.model.specs.Proof.Tables.{same-refl}
 use Rattle.octets.specs.Parts.{length-part, part}
-use Rattle.layout.specs.Reads.{hardwareFrom, settingsFrom}
+use Rattle.layout.proofs.Reading.{hardwareFrom, settingsFrom}
 use Rattle.checks.specs.Tests.{and-on, le16-part, le32-part, part-add, same-append}
 
 -- a part in two, the places as they are named

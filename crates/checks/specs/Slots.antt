@@ -16,7 +16,7 @@ use Rattle.model.specs.Layout.{occupancy, region, slotOctets, slots, slotsBack}
 use Rattle.model.specs.Proof.Tables.{same-refl}
 use Rattle.octets.specs.Parts.{part, length-part}
 use Rattle.table.specs.Slots.{tableAt}
-use Rattle.table.specs.Laws.{word-at}
+use Rattle.table.proofs.Regions.{word-at}
 use Rattle.checks.specs.Tests.{le32-part, part-add, same-append, same-zeros, u32-lt}
 
 -- of n slots of a size from a place on, slot j in use if bit j of the word is set, the free ones are zero

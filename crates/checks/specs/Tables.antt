@@ -19,10 +19,10 @@ use Rattle.model.specs.Proof.Tables.{bytes-chop, bytes-drop}
 use Rattle.model.specs.Proof.Tests.{and-true, both}
 use Rattle.octets.specs.Parts.{drop-take, length-part, part, u32-part}
 use Rattle.table.specs.Slots.{tableAt}
-use Rattle.table.specs.Laws.{length-region, length-table, sized-at}
+use Rattle.table.proofs.Regions.{length-region, length-table, sized-at}
 use Rattle.checks.specs.Tests.{part-add, same-append}
 use Rattle.checks.specs.Slots.{freeZero, region-same}
-use Rattle.layout.specs.Tables.{behind-word}
+use Rattle.layout.proofs.Tables.{behind-word}
 
 -- 1. One table ------------------------------------------------------------------------------------------------------------------------------
 

@@ -10,8 +10,7 @@ use lib.Dec.{eqb, ltb}
 use Rattle.model.specs.Octets.{Octets, octet, allZero, event, commandComplete}
 use Rattle.model.specs.State.{Table}
 use Rattle.model.specs.Reasons.{Check, _⇒_, addressTypeAbove2, addressZeroNotBredr}
-use Rattle.model.specs.Tables.{begins, entries, holds}
-use Rattle.model.specs.Proof.Region.{free}
+use Rattle.model.specs.Tables.{begins, entries, holds, free}
 use Rattle.table.specs.Slots.{firstAt, joinedByOr}
 
 -- the slot that a record goes to: that of the first match, else the lowest free one

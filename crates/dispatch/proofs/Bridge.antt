@@ -24,8 +24,8 @@ use Rattle.replies.specs.Answers.{Gives}
 use Rattle.model.specs.declared.Answer.{Answer}
 use Rattle.model.specs.declared.Answer.the-variants.{Refused}
 use Rattle.outcomes.specs.Outcomes.{general, served, contended, dispatched, ended}
-use Rattle.outcomes.specs.Endings.{ends-refused}
-use Rattle.outcomes.specs.Routes.{route-unknown, route-general, route-immediate, route-immediate-absent, route-radio, route-radio-absent}
+use Rattle.outcomes.proofs.Endings.{ends-refused}
+use Rattle.outcomes.proofs.Routes.{route-unknown, route-general, route-immediate, route-immediate-absent, route-radio, route-radio-absent}
 use Rattle.dispatch.specs.Codes.{member, generalCodes, settingsCodes, keyCodes, deviceCodes, informationCodes, controllerCodes, member-rest, member-last, member-other, rule-unknown}
 
 -- 1. A code's function --------------------------------------------------------------------------------------------------------------------------

@@ -18,9 +18,9 @@ use Rattle.replies.specs.Answers.{Gives}
 use Rattle.model.specs.declared.Answer.{Answer}
 use Rattle.model.specs.declared.Answer.the-variants.{BadPacket, SmallBuffer, BadState}
 use Rattle.outcomes.specs.Outcomes.{ended, dispatched, reported, named}
-use Rattle.outcomes.specs.Endings.{ends-silent}
-use Rattle.outcomes.specs.Routes.{command-small, command-bad, command-whole, report-small, report-whole, clock-small, clock-whole, plug-small, plug-whole, unplug-small, unplug-whole, save-small, save-whole}
-use Rattle.outcomes.specs.Routes.{name-small, name-whole}
+use Rattle.outcomes.proofs.Endings.{ends-silent}
+use Rattle.outcomes.proofs.Routes.{command-small, command-bad, command-whole, report-small, report-whole, clock-small, clock-whole, plug-small, plug-whole, unplug-small, unplug-whole, save-small, save-whole}
+use Rattle.outcomes.proofs.Routes.{name-small, name-whole}
 
 -- a reply buffer that is too short
 small : (s d : Octets) → stateOk s ≡ true → Gives (ended s noRoom) SmallBuffer d d s

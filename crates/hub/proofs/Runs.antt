@@ -84,7 +84,7 @@ run-more s next end x xs a b = record {
 run-of : (s end : Octets) (xs : List Seen) → Run s xs end → RunOf s xs end
 unfolding callsOf callsWide trace after
 run-of s end xs ends = record { wide = refl; seen = refl; state = refl }
-run-of s end xs (names k more) = run-of s end xs more
+run-of s end xs (names index which r k more) = run-of s end xs more
 run-of s end (x ∷ xs) (step {next = n} k more) = run-more s n end x xs (step-of s (x .call) (x .returned) (x .reply) n k) (run-of n end xs more)
 
 -- 4. Demand 3 -----------------------------------------------------------------------------------------------------------------------------------

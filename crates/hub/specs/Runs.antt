@@ -67,7 +67,7 @@ pub data Run : Octets → List Seen → Octets → Type 0 where
   -- no call: the state is as it was
   ends : {s : Octets} → Run s [] s
   -- hub_name, which only reads the state, then the others: demand 3's list has no entry for it
-  names : {s end before after : Octets} {index which r : ℕ} {xs : List Seen} → Returns (hubName s index which (length before)) r before after s → Run s xs end
+  names : {s end before after : Octets} {xs : List Seen} (index which r : ℕ) → Returns (hubName s index which (length before)) r before after s → Run s xs end
       → Run s xs end
   -- a call, then the others
   step : {s next end : Octets} {x : Seen} {xs : List Seen} → Step s (x .call) (x .returned) (x .reply) next → Run next xs end → Run s (x ∷ xs) end

@@ -25,14 +25,14 @@ use Rattle.model.specs.Proof.Demand3.{state-back, state-well}
 use Rattle.model.specs.Proof.Tests.{and-true, equal}
 use Rattle.octets.specs.Parts.{part, placeAt, writeAt, length-part, length-writeAt, write-left, write-right, write-split}
 use Rattle.table.specs.Slots.{InUse, NextUsed, tableAt}
-use Rattle.table.specs.Laws.{length-table, slot-room}
-use Rattle.table.specs.Walk.{in-use-entries, next-entries}
+use Rattle.table.proofs.Regions.{length-table, slot-room}
+use Rattle.table.proofs.Walk.{in-use-entries, next-entries}
 use Rattle.layout.specs.Places.{Ready, controllerOf, placeOf, presentAt, tablePlace}
-use Rattle.layout.specs.Reads.{absent-slot, name-at, present-slot}
-use Rattle.layout.specs.Change.{controller-fine}
-use Rattle.layout.specs.Tables.{table-at}
+use Rattle.layout.proofs.Reading.{absent-slot, name-at, present-slot}
+use Rattle.layout.proofs.Change.{controller-fine}
+use Rattle.layout.proofs.Tables.{table-at}
 use Rattle.outcomes.specs.Outcomes.{ended}
-use Rattle.outcomes.specs.Endings.{ends-done}
+use Rattle.outcomes.proofs.Endings.{ends-done}
 use Rattle.replies.specs.Answers.{Gives}
 use Rattle.model.specs.declared.Answer.{Answer}
 use Rattle.model.specs.declared.Answer.the-variants.{Done}

@@ -22,14 +22,14 @@ use Rattle.model.specs.Tables.{ruleAt}
 use Rattle.octets.specs.Parts.{part, length-part, write-whole, writeAt}
 use Rattle.table.specs.Slots.{joinedByOr, tableAt}
 use Rattle.layout.specs.Places.{Ready, controllerOf, placeOf, putController, tablePlace}
-use Rattle.layout.specs.Reads.{name-at, present-slot}
-use Rattle.layout.specs.Tables.{table-at, table-fits}
+use Rattle.layout.proofs.Reading.{name-at, present-slot}
+use Rattle.layout.proofs.Tables.{table-at, table-fits}
 use Rattle.replies.specs.Answers.{Gives}
 use Rattle.model.specs.declared.Answer.{Answer}
 use Rattle.model.specs.declared.Answer.the-variants.{Done, Refused}
 use Rattle.replies.proofs.Laws.{length-complete, then}
 use Rattle.outcomes.specs.Outcomes.{served}
-use Rattle.outcomes.specs.Endings.{served-length, served-done}
+use Rattle.outcomes.proofs.Endings.{served-length, served-done}
 use Rattle.information.specs.Controller.{informationHead, informationOf}
 use Rattle.information.proofs.Name.{name-fits}
 

@@ -19,12 +19,12 @@ use Rattle.model.specs.Meanings.{stateOk}
 use Rattle.model.specs.Proof.Demand3.{state-back}
 use Rattle.octets.specs.Parts.{writeAt, write-split, write-right, write-front}
 use Rattle.layout.specs.Places.{presentAt}
-use Rattle.layout.specs.Reads.{present-slot, absent-slot}
+use Rattle.layout.proofs.Reading.{present-slot, absent-slot}
 use Rattle.replies.specs.Answers.{Gives}
 use Rattle.model.specs.declared.Answer.{Answer}
 use Rattle.model.specs.declared.Answer.the-variants.{Done, Refused}
 use Rattle.outcomes.specs.Outcomes.{general}
-use Rattle.outcomes.specs.Endings.{ends-refused, ends-done}
+use Rattle.outcomes.proofs.Endings.{ends-refused, ends-done}
 use Rattle.information.specs.General.{Reply, listed}
 use Rattle.model.specs.Proof.Room.{length-complete, length-le16}
 

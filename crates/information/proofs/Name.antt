@@ -20,14 +20,14 @@ use Rattle.model.specs.Layout.{encode, decode}
 use Rattle.model.specs.Meanings.{nameOut, stateOk}
 use Rattle.model.specs.Proof.Demand3.{state-back}
 use Rattle.octets.specs.Parts.{part, placeAt, writeAt}
-use Rattle.layout.specs.Places.{Ready, controllerOf, placeOf, presentAt, putController, ready, sizes}
-use Rattle.layout.specs.Reads.{absent-controller, name-at, present-controller}
+use Rattle.layout.specs.Places.{Ready, controllerOf, placeOf, presentAt, putController, sizes}
+use Rattle.layout.proofs.Reading.{absent-controller, name-at, present-controller, ready}
 use Rattle.replies.specs.Answers.{Gives}
 use Rattle.model.specs.declared.Answer.{Answer}
 use Rattle.model.specs.declared.Answer.the-variants.{Done, Refused, BadArgument}
 use Rattle.replies.proofs.Laws.{length-complete, length-event, then}
 use Rattle.outcomes.specs.Outcomes.{named, served}
-use Rattle.outcomes.specs.Endings.{ends-done, ends-silent, served-length, served-status, served-done}
+use Rattle.outcomes.proofs.Endings.{ends-done, ends-silent, served-length, served-status, served-done}
 
 -- what the rule says, case by case
 size-true : (ps : Octets) → length ps ≡ 260 → setLocalName .size ps ≡ true

@@ -20,14 +20,14 @@ use Rattle.model.specs.Proof.Tables.{length-chop}
 use Rattle.model.specs.Tables.{ruleAt}
 use Rattle.model.specs.Proof.Tests.{equal}
 use Rattle.octets.specs.Parts.{part, writeAt}
-use Rattle.table.specs.Slots.{length-loaded, sized-loaded}
+use Rattle.table.proofs.Slots.{length-loaded, sized-loaded}
 use Rattle.layout.specs.Places.{Ready, controllerOf, putController, tablePlace}
-use Rattle.layout.specs.Tables.{table-fits, table-stored}
+use Rattle.layout.proofs.Tables.{table-fits, table-stored}
 use Rattle.replies.specs.Answers.{Gives}
 use Rattle.model.specs.declared.Answer.{Answer}
 use Rattle.model.specs.declared.Answer.the-variants.{Done, Refused}
 use Rattle.outcomes.specs.Outcomes.{served}
-use Rattle.outcomes.specs.Endings.{served-length, served-status, served-done}
+use Rattle.outcomes.proofs.Endings.{served-length, served-status, served-done}
 use Rattle.lists.specs.Lists.{valueChecks}
 use Rattle.keys.specs.Lists.{keyList, ListOf}
 use Rattle.keys.proofs.Checks.{Statuses, FailsWith, fails-with, values-status, first-fails, first-holds, passes-none, append-fails, append-passes}

@@ -21,18 +21,19 @@ use Rattle.model.specs.Proof.Parts.{table-changed}
 use Rattle.model.specs.Tables.{ruleAt}
 use Rattle.model.specs.Proof.Tables.{freed-ok, length-freed}
 use Rattle.octets.specs.Parts.{part, writeAt}
-use Rattle.table.specs.Slots.{Canonical, firstAt, tableAt, holds-first, sized-freed}
+use Rattle.table.specs.Slots.{Canonical, firstAt, tableAt}
+use Rattle.table.proofs.Slots.{holds-first, sized-freed}
 use Rattle.layout.specs.Places.{Ready, controllerOf, putController, tablePlace}
-use Rattle.layout.specs.Change.{controller-fine}
-use Rattle.layout.specs.Tables.{table-at, table-fine, table-long, table-sized, region-at, table-stored}
-use Rattle.layout.specs.Kept.{host-fine, controller-ready, controller-back, controller-decoded}
+use Rattle.layout.proofs.Change.{controller-fine}
+use Rattle.layout.proofs.Tables.{table-at, table-fine, table-long, table-sized, region-at, table-stored}
+use Rattle.layout.proofs.Kept.{host-fine, controller-ready, controller-back, controller-decoded}
 use Rattle.records.proofs.Laws.{size-least}
 use Rattle.replies.specs.Answers.{Gives}
 use Rattle.model.specs.declared.Answer.{Answer}
 use Rattle.model.specs.declared.Answer.the-variants.{Done, Refused}
 use Rattle.replies.proofs.Laws.{then, length-event}
 use Rattle.outcomes.specs.Outcomes.{served}
-use Rattle.outcomes.specs.Endings.{served-length, served-address, served-done}
+use Rattle.outcomes.proofs.Endings.{served-length, served-address, served-done}
 use Rattle.keys.specs.Forget.{forgotten, Forgets}
 use Rattle.model.specs.Proof.Room.{length-complete}
 

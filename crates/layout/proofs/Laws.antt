@@ -17,9 +17,9 @@ use Rattle.model.specs.Proof.Names.{length-used}
 use Rattle.octets.specs.Parts.{part, part-first, part-part, placeAt, write-split, writeAt}
 use Rattle.layout.specs.Places.{Ready, base, controllerOf, placeOf, putController, settingsHead, sizes, tablePlace}
 use Rattle.rules.specs.Effects.{withSettings}
-use Rattle.layout.specs.Change.{settings-changed}
-use Rattle.layout.specs.Open.{open-put}
-use Rattle.layout.specs.Reads.{name-at}
+use Rattle.layout.proofs.Change.{settings-changed}
+use Rattle.layout.proofs.Open.{open-put}
+use Rattle.layout.proofs.Reading.{name-at}
 
 -- a test of the code, as the model's test
 pub ruleset tests = (eq-eqb, ne-eqb, le-leb, lt-leb, le-ltb, lt-ltb)

@@ -6,15 +6,12 @@ use mathlib.Core.List.{List, [], _∷_, _++_}
 use mathlib.Core.Option.{Option, none, some}
 use lib.ListN.{length, getD, drop, set}
 use lib.Dec.{eqb, ltb}
-use borrow.Author.Tests.{ltb-true}
 use Rattle.model.specs.declared.Hardware.{Hardware}
 use Rattle.model.specs.declared.Settings.{Settings}
 use Rattle.model.specs.Octets.{Octets, le16, le32}
 use Rattle.model.specs.State.{Controller, Hub, OpenCommand, flag, withController}
 use Rattle.model.specs.Layout.{controllerBack, decode}
 use Rattle.model.specs.Meanings.{stateOk}
-use Rattle.model.specs.Proof.Demand3.{state-long}
-use Rattle.model.specs.Proof.Tests.{and-true}
 use Rattle.octets.specs.Parts.{part, placeAt}
 
 -- 1. Places -----------------------------------------------------------------------------------------------------------------------------------
@@ -85,12 +82,3 @@ pub record Ready (s : Octets) (i : ℕ) : Type 0 where
   pub here : presentAt s i ≡ true
   pub long : length s ≡ 16116
   pub below : i < 4
-
--- a present index is one of four
-pub present-below : (s : Octets) (i : ℕ) → presentAt s i ≡ true → i < 4
-unfolding presentAt
-present-below s i e = ltb-true i 4 (and-true (ltb i 4) _ e .0)
-
--- the two tests make it
-pub ready : (s : Octets) (i : ℕ) → stateOk s ≡ true → presentAt s i ≡ true → Ready s i
-ready s i ok here = record { ok = ok; here = here; long = state-long s ok; below = present-below s i here }

@@ -1,0 +1,5 @@
+pub mod Filling
+pub mod Controllers
+pub mod Loading
+pub mod Checking
+pub mod Accepting

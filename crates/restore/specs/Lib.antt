@@ -1,5 +1,2 @@
-pub mod Filling
-pub mod Controllers
-pub mod Loading
 pub mod Checking
-pub mod Accepting
+pub mod Filling

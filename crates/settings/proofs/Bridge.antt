@@ -21,7 +21,7 @@ use Rattle.model.specs.Layout.{encode, decode}
 use Rattle.model.specs.Proof.Tests.{no-way}
 use Rattle.octets.specs.Parts.{writeAt}
 use Rattle.layout.specs.Places.{Ready, controllerOf, placeOf, putController}
-use Rattle.layout.specs.Open.{open-nothing, open-command}
+use Rattle.layout.proofs.Open.{open-nothing, open-command}
 use Rattle.replies.specs.Answers.{Gives}
 use Rattle.replies.specs.Frames.{settingsReply, changedEvent}
 use Rattle.model.specs.declared.Answer.{Answer}
@@ -33,7 +33,7 @@ use Rattle.rules.specs.Decisions.{decision}
 use Rattle.rules.specs.Effects.{withSettings, settingsBondable, settingsEffect, OnlySettings}
 use Rattle.rules.proofs.Ties.{refuse-fails, reject-fails, wait-passes, act-passes, bondable-only}
 use Rattle.outcomes.specs.Outcomes.{served, contended}
-use Rattle.outcomes.specs.Endings.{served-length, served-status, served-done, contended-length, contended-early, contended-busy, contended-late, contended-started, contended-done}
+use Rattle.outcomes.proofs.Endings.{served-length, served-status, served-done, contended-length, contended-early, contended-busy, contended-late, contended-started, contended-done}
 use Rattle.settings.specs.Follows.{Follows, Concludes}
 
 -- 1. The reply ------------------------------------------------------------------------------------------------------------------------------------

@@ -23,9 +23,9 @@ use Rattle.model.specs.Meanings.{stateOk, laidOut}
 use Rattle.model.specs.Proof.Tests.{and-true, equal, no-way}
 use Rattle.octets.specs.Parts.{part, placeAt, writeAt}
 use Rattle.layout.specs.Places.{Ready, controllerOf, openAt, placeOf, presentAt, putController, sizes}
-use Rattle.layout.specs.Reads.{absent-open, present-controller}
-use Rattle.layout.specs.Open.{open-nothing, open-command}
-use Rattle.layout.specs.Kept.{open-fine, opened-ready, opened-controller, opened-decoded}
+use Rattle.layout.proofs.Reading.{absent-open, present-controller}
+use Rattle.layout.proofs.Open.{open-nothing, open-command}
+use Rattle.layout.proofs.Kept.{open-fine, opened-ready, opened-controller, opened-decoded}
 use Rattle.replies.specs.Answers.{Gives}
 use Rattle.replies.specs.Frames.{settingsReply}
 use Rattle.model.specs.declared.Answer.{Answer}
@@ -34,7 +34,7 @@ use Rattle.replies.proofs.Laws.{gives-written, settings-short}
 use Rattle.rules.specs.Effects.{withSettings, settingsEffect, OnlySettings}
 use Rattle.rules.proofs.Ties.{powered-only, discoverable-only, connectable-only, low-energy-only}
 use Rattle.outcomes.specs.Outcomes.{ended, reported}
-use Rattle.outcomes.specs.Endings.{ends-silent}
+use Rattle.outcomes.proofs.Endings.{ends-silent}
 use Rattle.settings.specs.Opens.{Opens, opens-powered, opens-discoverable, opens-connectable, opens-low-energy, Makes}
 use Rattle.settings.proofs.Bridge.{reply-is}
 use Rattle.model.specs.Proof.Room.{length-status}

@@ -16,13 +16,14 @@ use lib.Bits.{bitAnd, bitOr, and-le-l, or-lt, or-step, or-zero-r}
 use lib.Count.{trailingZeros, trailing-le, trailing-of-zero}
 use Rattle.model.specs.Octets.{Octets, le32, octet, u32, same}
 use Rattle.model.specs.State.{Table}
-use Rattle.model.specs.Tables.{begins, chop, entries, freed, loaded}
+use Rattle.model.specs.Tables.{begins, chop, entries, freed, loaded, free}
 use Rattle.model.specs.Layout.{region}
-use Rattle.model.specs.Proof.Region.{Sized, free}
+use Rattle.model.specs.Proof.Region.{Sized}
 use Rattle.octets.specs.Parts.{part, writeAt, getD-part, length-writeAt}
-use Rattle.table.specs.Slots.{Canonical, InUse, NextUsed, firstAt, joinedByOr, tableAt, freed-first, freed-none, entries-first, sized-none}
-use Rattle.table.specs.Laws.{free-at, store-changed, release-changed, load-changed, length-table, length-region, canonical-write, sized-at, table-write, write-over, write-part}
-use Rattle.table.specs.Walk.{next-some, next-none, next-first, next-entries, in-use-entries}
+use Rattle.table.specs.Slots.{Canonical, InUse, NextUsed, firstAt, joinedByOr, tableAt}
+use Rattle.table.proofs.Slots.{freed-first, freed-none, entries-first, sized-none}
+use Rattle.table.proofs.Regions.{free-at, store-changed, release-changed, load-changed, length-table, length-region, canonical-write, sized-at, table-write, write-over, write-part}
+use Rattle.table.proofs.Walk.{next-some, next-none, next-first, next-entries, in-use-entries}
 
 -- places ------------------------------------------------------------------------------------------------------------------------------------------
 

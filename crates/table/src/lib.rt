@@ -3,9 +3,8 @@ ghost use mathlib.Core.Path.{_≡_};
 ghost use mathlib.Core.Option.{none, some};
 ghost use Prim.Native.Nat.{ℕ, _+_, _*_, _≤_, _<_};
 ghost use lib.ListN.{length, drop, set, replicate};
-ghost use Rattle.model.specs.Tables.{entries, begins, freed, loaded, chop};
+ghost use Rattle.model.specs.Tables.{entries, begins, freed, loaded, chop, free};
 ghost use Rattle.model.specs.Layout.{region};
-ghost use Rattle.model.specs.Proof.Region.{free};
 ghost use Rattle.octets.specs.Parts.{writeAt};
 ghost use Rattle.table.specs.Slots.{Canonical, NextUsed, firstAt, joinedByOr, tableAt};
 

@@ -2,7 +2,7 @@
 use mathlib.Core.Path.{refl, sym, _∙_}
 use Prim.Native.Nat.{_-_}
 use native.Mathlib.Omega.{arith}
-use Rattle.layout.specs.Places.{ready}
+use Rattle.layout.proofs.Reading.{ready}
 use Rattle.calls.proofs.Reading.{tick-absent, tick-ends, tick-on}
 use borrow.Author.Needs.{needs}
 use Rattle.calls.proofs.tick.Statement.{statement}

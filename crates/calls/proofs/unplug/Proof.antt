@@ -1,7 +1,7 @@
 -- `calls::unplug` meets its contract.
 use mathlib.Core.Path.{refl, sym, _∙_}
 use Prim.Native.Nat.{_-_}
-use Rattle.layout.specs.Places.{ready, present-below}
+use Rattle.layout.proofs.Reading.{ready, present-below}
 use Rattle.calls.proofs.Plugs.{unplug-absent, unplug-quiet, unplug-open}
 use borrow.Author.Needs.{needs}
 use Rattle.calls.proofs.unplug.Statement.{statement}

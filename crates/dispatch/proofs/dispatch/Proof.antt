@@ -3,7 +3,7 @@ use mathlib.Core.Path.{sym, _∙_}
 use Prim.Native.Nat.{_-_}
 use borrow.Author.Needs.{needs}
 use Rattle.model.specs.Commands.{readVersion, readCommands, readIndexes}
-use Rattle.layout.specs.Places.{ready}
+use Rattle.layout.proofs.Reading.{ready}
 use Rattle.dispatch.proofs.Bridge.{arm-general, arm-absent, arm-unknown, rule-01, rule-02, rule-03}
 use Rattle.dispatch.proofs.dispatch.Statement.{statement}
 use Rattle.dispatch.proofs.dispatch.Tie as tie

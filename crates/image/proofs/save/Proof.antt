@@ -3,7 +3,7 @@ use mathlib.Core.Path.{refl, sym, _∙_}
 use mathlib.Core.Logic.{⊎-elim}
 use Prim.Native.Nat.{_-_, _≤_}
 use native.Mathlib.Omega.{arith}
-use Rattle.layout.specs.Places.{ready}
+use Rattle.layout.proofs.Reading.{ready}
 use Rattle.image.proofs.SaveLaws.{SavingAll, all-first, all-present, all-absent, all-written}
 use Rattle.model.specs.Proof.Demand3.{state-long}
 use borrow.Author.Needs.{needs}

@@ -4,7 +4,7 @@ use Prim.Native.Nat.{_+_, _-_, _≤_, _<_}
 use native.Mathlib.Omega.{arith}
 use lib.ListN.{length}
 use Rattle.table.specs.Slots.{InUse}
-use Rattle.table.specs.Laws.{slot-room}
+use Rattle.table.proofs.Regions.{slot-room}
 use Rattle.image.proofs.SaveLaws.{Saving, saving-first, saving-turn, saving-room, saving-last}
 use borrow.Author.Needs.{needs}
 use Rattle.image.proofs.save_records.Statement.{statement}

@@ -1,7 +1,7 @@
 -- `image::save_tables` meets its contract. The invariant: the images of the tables from k on are still to be written.
 use Prim.Native.Nat.{_-_, _≤_}
 use native.Mathlib.Omega.{arith}
-use Rattle.layout.specs.Tables.{table-fits}
+use Rattle.layout.proofs.Tables.{table-fits}
 use Rattle.image.proofs.SaveLaws.{SavingTables, tables-first, tables-room, tables-turn, tables-last}
 use borrow.Author.Needs.{needs}
 use Rattle.image.proofs.save_tables.Statement.{statement}

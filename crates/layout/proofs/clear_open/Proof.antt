@@ -2,7 +2,7 @@
 use mathlib.Core.Path.{_∙_}
 use Rattle.layout.specs.Places.{placeOf, sizes}
 use Rattle.octets.specs.Parts.{placeAt}
-use Rattle.layout.specs.Open.{open-cleared}
+use Rattle.layout.proofs.Open.{open-cleared}
 use borrow.Author.Needs.{needs}
 use Rattle.layout.proofs.clear_open.Statement.{statement}
 use Rattle.layout.proofs.clear_open.Tie as tie

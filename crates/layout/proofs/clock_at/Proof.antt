@@ -1,6 +1,6 @@
 -- `layout::clock_at` meets its contract. The clock is the number at the start.
 use mathlib.Core.Path.{_∙_}
-use Rattle.layout.specs.Reads.{clock-at}
+use Rattle.layout.proofs.Reading.{clock-at}
 use borrow.Author.Needs.{needs}
 use Rattle.layout.proofs.clock_at.Statement.{statement}
 use Rattle.layout.proofs.clock_at.Tie as tie

@@ -1,6 +1,6 @@
 -- `layout::empty_block` meets its contract. Zeros over the whole block.
 use mathlib.Core.Path.{refl, _∙_}
-use Rattle.layout.specs.Change.{block-emptied}
+use Rattle.layout.proofs.Change.{block-emptied}
 use borrow.Author.Needs.{needs}
 use Rattle.layout.proofs.empty_block.Statement.{statement}
 use Rattle.layout.proofs.empty_block.Tie as tie

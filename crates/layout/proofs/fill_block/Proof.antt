@@ -4,7 +4,7 @@ use native.Mathlib.Omega.{arith}
 use Rattle.model.specs.Proof.Demand3.{state-long}
 use Rattle.model.specs.Octets.{bit}
 use Rattle.model.specs.State.{leSupported}
-use Rattle.layout.specs.Filled.{block-filled}
+use Rattle.layout.proofs.Filled.{block-filled}
 use borrow.Author.Needs.{needs}
 use Rattle.layout.proofs.fill_block.Statement.{statement}
 use Rattle.layout.proofs.fill_block.Tie as tie

@@ -1,6 +1,6 @@
 -- `layout::hardware_at` meets its contract. Each field stands at its place of the block.
 use mathlib.Core.Path.{_∙_}
-use Rattle.layout.specs.Reads.{hardware-at, hardwareFrom}
+use Rattle.layout.proofs.Reading.{hardware-at, hardwareFrom}
 use borrow.Author.Needs.{needs}
 use Rattle.layout.proofs.hardware_at.Statement.{statement}
 use Rattle.layout.proofs.hardware_at.Tie as tie

@@ -1,7 +1,7 @@
 -- `layout::put_clock` meets its contract. Four octets at the start; the state is as long as a well-formed one.
 use mathlib.Core.Path.{_∙_}
 use native.Mathlib.Omega.{arith}
-use Rattle.layout.specs.Filled.{clock-changed}
+use Rattle.layout.proofs.Filled.{clock-changed}
 use Rattle.model.specs.Proof.Demand3.{state-long}
 use borrow.Author.Needs.{needs}
 use Rattle.layout.proofs.put_clock.Statement.{statement}

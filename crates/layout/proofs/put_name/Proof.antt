@@ -2,7 +2,7 @@
 use mathlib.Core.Path.{_∙_}
 use Rattle.layout.specs.Places.{placeOf, sizes}
 use Rattle.octets.specs.Parts.{placeAt}
-use Rattle.layout.specs.Change.{name-changed}
+use Rattle.layout.proofs.Change.{name-changed}
 use borrow.Author.Needs.{needs}
 use Rattle.layout.proofs.put_name.Statement.{statement}
 use Rattle.layout.proofs.put_name.Tie as tie

@@ -1,6 +1,6 @@
 -- `layout::settings_at` meets its contract. Each field stands at its place of the block.
 use mathlib.Core.Path.{_∙_}
-use Rattle.layout.specs.Reads.{settings-at, settingsFrom}
+use Rattle.layout.proofs.Reading.{settings-at, settingsFrom}
 use borrow.Author.Needs.{needs}
 use Rattle.layout.proofs.settings_at.Statement.{statement}
 use Rattle.layout.proofs.settings_at.Tie as tie

@@ -1,7 +1,7 @@
 -- `restore::controller_ends` meets its contract: each test is one of the model's, and the tables decide.
 use mathlib.Core.Path.{sym, _∙_}
 use Prim.Native.Nat.{_-_}
-use Rattle.restore.specs.Checking.{controller-fixed, controller-last, controller-radio, controller-short}
+use Rattle.restore.proofs.Checking.{controller-fixed, controller-last, controller-radio, controller-short}
 use borrow.Author.Needs.{needs}
 use Rattle.restore.proofs.controller_ends.Statement.{statement}
 use Rattle.restore.proofs.controller_ends.Tie as tie

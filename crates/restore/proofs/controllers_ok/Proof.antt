@@ -3,7 +3,8 @@ use mathlib.Core.Path.{_≡_, refl}
 use Prim.Native.Nat.{_-_, _≤_}
 use native.Mathlib.Omega.{arith}
 use lib.ListN.{length, drop, getD}
-use Rattle.restore.specs.Accepting.{scans, scan-all, scan-bad, scan-high, scan-low, scan-over, scan-short, scan-turn}
+use Rattle.restore.specs.Checking.{scans}
+use Rattle.restore.proofs.Accepting.{scan-all, scan-bad, scan-high, scan-low, scan-over, scan-short, scan-turn}
 use borrow.Author.Needs.{needs}
 use Rattle.restore.proofs.controllers_ok.Statement.{statement}
 use Rattle.restore.proofs.controllers_ok.Tie as tie

@@ -5,8 +5,8 @@ use native.Mathlib.Omega.{arith}
 use lib.ListN.{length}
 use mathlib.Core.Bool.{true}
 use Rattle.model.specs.Octets.{bytes}
-use Rattle.layout.specs.Filled.{state-cleared}
-use Rattle.restore.specs.Loading.{Loads, image-long, loads-first, loads-last, loads-ready, loads-turn}
+use Rattle.layout.proofs.Filled.{state-cleared}
+use Rattle.restore.proofs.Loading.{Loads, image-long, loads-first, loads-last, loads-ready, loads-turn}
 use borrow.Author.Needs.{needs}
 use Rattle.restore.proofs.fill.Statement.{statement}
 use Rattle.restore.proofs.fill.Tie as tie

@@ -1,7 +1,7 @@
 -- `restore::fill_controller` meets its contract: hardware, settings, name and tables, each written into a well-formed state.
 use Prim.Native.Nat.{_-_}
 use native.Mathlib.Omega.{arith}
-use Rattle.restore.specs.Controllers.{Awaited, address-long, controller-filled, fixed-room, hardware-ready, name-long, name-ready, settings-ready}
+use Rattle.restore.proofs.Controllers.{Awaited, address-long, controller-filled, fixed-room, hardware-ready, name-long, name-ready, settings-ready}
 use borrow.Author.Needs.{needs}
 use Rattle.restore.proofs.fill_controller.Statement.{statement}
 use Rattle.restore.proofs.fill_controller.Tie as tie

@@ -3,10 +3,10 @@ use mathlib.Core.Path.{_≡_, refl}
 use Prim.Native.Nat.{_-_, _≤_}
 use native.Mathlib.Omega.{arith}
 use lib.ListN.{length}
-use Rattle.restore.specs.Filling.{TablesLeft, tables-first, tables-last, tables-room, tables-turn}
+use Rattle.restore.proofs.Filling.{TablesLeft, tables-first, tables-last, tables-room, tables-turn}
 use mathlib.Core.Bool.{true}
 use Rattle.model.specs.Octets.{bytes}
-use Rattle.layout.specs.Tables.{table-fits}
+use Rattle.layout.proofs.Tables.{table-fits}
 use borrow.Author.Needs.{needs}
 use Rattle.restore.proofs.fill_tables.Statement.{statement}
 use Rattle.restore.proofs.fill_tables.Tie as tie

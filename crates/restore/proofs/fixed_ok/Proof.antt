@@ -1,6 +1,6 @@
 -- `restore::fixed_ok` meets its contract: each test is one of the model's.
 use Prim.Native.Nat.{_-_}
-use Rattle.restore.specs.Checking.{fixed-flags, fixed-last, fixed-name}
+use Rattle.restore.proofs.Checking.{fixed-flags, fixed-last, fixed-name}
 use borrow.Author.Needs.{needs}
 use Rattle.restore.proofs.fixed_ok.Statement.{statement}
 use Rattle.restore.proofs.fixed_ok.Tie as tie

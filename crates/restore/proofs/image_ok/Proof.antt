@@ -1,6 +1,6 @@
 -- `restore::image_ok` meets its contract: each test is one of the model's, and the controllers decide.
 use Prim.Native.Nat.{_-_}
-use Rattle.restore.specs.Accepting.{image-length, image-rest, image-short, image-version}
+use Rattle.restore.proofs.Accepting.{image-length, image-rest, image-short, image-version}
 use borrow.Author.Needs.{needs}
 use Rattle.restore.proofs.image_ok.Statement.{statement}
 use Rattle.restore.proofs.image_ok.Tie as tie

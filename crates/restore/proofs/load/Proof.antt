@@ -4,7 +4,7 @@ use Prim.Native.Nat.{_-_}
 use lib.ListN.{length}
 use Rattle.model.specs.Octets.{Octets}
 use Rattle.model.specs.Hub.{Result}
-use Rattle.restore.specs.Accepting.{load-done, load-length, load-refused}
+use Rattle.restore.proofs.Accepting.{load-done, load-length, load-refused}
 use borrow.Author.Needs.{needs}
 use Rattle.restore.proofs.load.Statement.{statement}
 use Rattle.restore.proofs.load.Tie as tie

@@ -2,7 +2,7 @@
 use mathlib.Core.Path.{_∙_}
 use Prim.Native.Nat.{_-_}
 use Rattle.model.specs.State.{noTimer}
-use Rattle.restore.specs.Controllers.{settingsFrom, settings-from}
+use Rattle.restore.proofs.Controllers.{settingsFrom, settings-from}
 use borrow.Author.Needs.{needs}
 use Rattle.restore.proofs.settings_in.Statement.{statement}
 use Rattle.restore.proofs.settings_in.Tie as tie

@@ -3,7 +3,7 @@ use mathlib.Core.Path.{sym, _∙_}
 use Prim.Native.Nat.{_-_}
 use native.Mathlib.Omega.{arith}
 use lib.ListN.{getD}
-use Rattle.restore.specs.Checking.{size-room, table-breaks, table-cut, table-empty, table-many, table-short, table-supported, table-unsupported}
+use Rattle.restore.proofs.Checking.{size-room, table-breaks, table-cut, table-empty, table-many, table-short, table-supported, table-unsupported}
 use borrow.Author.Needs.{needs}
 use Rattle.restore.proofs.table_ends.Statement.{statement}
 use Rattle.restore.proofs.table_ends.Tie as tie

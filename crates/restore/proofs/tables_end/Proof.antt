@@ -2,7 +2,7 @@
 use Prim.Native.Nat.{_-_, _≤_, _<_}
 use native.Mathlib.Omega.{arith}
 use lib.ListN.{length}
-use Rattle.restore.specs.Checking.{TablesGo, go-first, go-last, go-none, go-turn}
+use Rattle.restore.proofs.Checking.{TablesGo, go-first, go-last, go-none, go-turn}
 use borrow.Author.Needs.{needs}
 use Rattle.restore.proofs.tables_end.Statement.{statement}
 use Rattle.restore.proofs.tables_end.Tie as tie

@@ -1,7 +1,7 @@
 -- `settings::report` meets its contract.
 use mathlib.Core.Path.{sym, _∙_}
 use Prim.Native.Nat.{_-_}
-use Rattle.layout.specs.Places.{present-below, ready}
+use Rattle.layout.proofs.Reading.{present-below, ready}
 use Rattle.settings.proofs.Reporting.{report-absent, report-idle, report-above, report-failed}
 use borrow.Author.Needs.{needs}
 use Rattle.settings.proofs.report.Statement.{statement}

@@ -3,7 +3,7 @@ use mathlib.Core.Path.{sym, _∙_}
 use Prim.Native.Nat.{_-_, _≤_, _<_}
 use native.Mathlib.Omega.{arith}
 use Rattle.table.specs.Slots.{InUse}
-use Rattle.table.specs.Laws.{slot-room}
+use Rattle.table.proofs.Regions.{slot-room}
 use Rattle.table.proofs.Laws.{Left, left-first, left-hit, left-miss, left-none}
 use borrow.Author.Needs.{needs}
 use Rattle.table.proofs.find.Statement.{statement}

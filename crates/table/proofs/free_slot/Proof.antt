@@ -1,7 +1,7 @@
 -- `table::free_slot` meets its contract. The trailing zeros of the word's complement are the slots below the lowest free one; a full word has none.
 use native.Mathlib.Omega.{arith}
 use lib.Count.{trailing-le}
-use Rattle.table.specs.Laws.{free-at}
+use Rattle.table.proofs.Regions.{free-at}
 use Rattle.table.proofs.Laws.{free-full, zeros-fit}
 use borrow.Author.Needs.{needs}
 use Rattle.table.proofs.free_slot.Statement.{statement}

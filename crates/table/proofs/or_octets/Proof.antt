@@ -2,7 +2,7 @@
 use Prim.Native.Nat.{_-_, _≤_, _<_}
 use native.Mathlib.Omega.{arith}
 use Rattle.table.specs.Slots.{InUse}
-use Rattle.table.specs.Laws.{slot-room}
+use Rattle.table.proofs.Regions.{slot-room}
 use Rattle.table.proofs.Laws.{Joined, joined-first, joined-turn, joined-last}
 use borrow.Author.Needs.{needs}
 use Rattle.table.proofs.or_octets.Statement.{statement}

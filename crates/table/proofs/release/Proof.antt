@@ -1,6 +1,6 @@
 -- `table::release` meets its contract. The octets of slot k are zero and its bit is masked out: the table with that slot free.
 use native.Mathlib.Omega.{arith}
-use Rattle.table.specs.Laws.{slot-room}
+use Rattle.table.proofs.Regions.{slot-room}
 use Rattle.table.proofs.Laws.{release-done, and-fits}
 use borrow.Author.Needs.{needs}
 use Rattle.table.proofs.release.Statement.{statement}

@@ -1,5 +1,5 @@
 -- `table::release_all` meets its contract. An empty table is all zeros.
-use Rattle.table.specs.Laws.{region-nones}
+use Rattle.table.proofs.Regions.{region-nones}
 use borrow.Author.Needs.{needs}
 use Rattle.table.proofs.release_all.Statement.{statement}
 use Rattle.table.proofs.release_all.Tie as tie

@@ -1,6 +1,6 @@
 -- `table::store` meets its contract. The octets of slot k and the word are written: the table with that slot changed.
 use native.Mathlib.Omega.{arith}
-use Rattle.table.specs.Laws.{slot-room}
+use Rattle.table.proofs.Regions.{slot-room}
 use Rattle.table.proofs.Laws.{store-done, or-fits}
 use borrow.Author.Needs.{needs}
 use Rattle.table.proofs.store.Statement.{statement}

@@ -1,7 +1,7 @@
 -- `table::used` meets its contract. The ones of the word are the table's entries.
 use native.Mathlib.Omega.{arith}
 use lib.Count.{ones-le}
-use Rattle.table.specs.Laws.{used-at}
+use Rattle.table.proofs.Regions.{used-at}
 use borrow.Author.Needs.{needs}
 use Rattle.table.proofs.used.Statement.{statement}
 use Rattle.table.proofs.used.Tie as tie

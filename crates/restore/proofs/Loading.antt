@@ -2,7 +2,7 @@
 use mathlib.Core.Path.{_≡_, refl, ap, sym, _∙_}
 use Prim.Native.Nat.{ℕ, zero, suc, _+_, _-_, _≤_, _<_}
 use native.Mathlib.Omega.{arith}
-use mathlib.Core.Bool.{Bool, true, false, _&&_}
+use mathlib.Core.Bool.{true, false, _&&_}
 use mathlib.Core.List.{List, [], _∷_}
 use mathlib.Core.Option.{Option, none, some}
 use lib.ListN.{length, getD, take, drop, replicate, set, length-set}
@@ -22,12 +22,9 @@ use Rattle.model.specs.Proof.Stays.{fit-plain, plain-fit, slots-set}
 use Rattle.model.specs.Proof.Tables.{bytes-drop}
 use Rattle.model.specs.Proof.Tests.{and-true}
 use Rattle.layout.specs.Places.{presentAt, putController}
-use Rattle.layout.specs.Kept.{encode-absent}
-use Rattle.restore.specs.Filling.{found, found-some, left-octet, some-found}
-
--- the image is acceptable
-unfoldable pub accepted : Octets → Bool
-accepted image = found (load image)
+use Rattle.layout.proofs.Kept.{encode-absent}
+use Rattle.restore.specs.Checking.{found, accepted}
+use Rattle.restore.proofs.Filling.{found-some, left-octet, some-found}
 
 -- a hub of these controllers, with clock zero
 abbrev hubOf : List (Option Controller) → PlainHub

@@ -18,9 +18,9 @@ use Rattle.model.specs.Proof.Decode.{Started, started-by}
 use Rattle.model.specs.Proof.Tests.{and-true}
 use Rattle.octets.specs.Parts.{getD-part, part, part-part, placeAt, write-split, writeAt}
 use Rattle.layout.specs.Places.{Ready, base, controllerOf, openAt, placeOf, sizes}
-use Rattle.layout.specs.Reads.{block-open, open-some, present-octet}
-use Rattle.layout.specs.Change.{open-changed}
-use Rattle.layout.specs.Kept.{open-fine}
+use Rattle.layout.proofs.Reading.{block-open, open-some, present-octet}
+use Rattle.layout.proofs.Change.{open-changed}
+use Rattle.layout.proofs.Kept.{open-fine}
 
 -- 1. Read -------------------------------------------------------------------------------------------------------------------------------------
 

@@ -18,10 +18,10 @@ use Rattle.model.specs.Proof.Demand3.{encode-ok, state-well}
 use Rattle.model.specs.Proof.Keeps.{opens-at, slot-four}
 use Rattle.model.specs.Proof.Stays.{fit-plain, plain-fit, slots-set}
 use Rattle.model.specs.Proof.Tests.{and-true, both, no-way}
-use Rattle.layout.specs.Places.{Ready, controllerOf, openAt, presentAt, putController, ready}
-use Rattle.layout.specs.Reads.{absent-controller, present-controller, present-slot}
-use Rattle.layout.specs.Lens.{shaped, withSlot}
-use Rattle.layout.specs.Change.{controller-fine, put-controller, put-open}
+use Rattle.layout.specs.Places.{Ready, controllerOf, openAt, presentAt, putController}
+use Rattle.layout.proofs.Reading.{absent-controller, present-controller, present-slot, ready}
+use Rattle.layout.proofs.Lens.{shaped, withSlot}
+use Rattle.layout.proofs.Change.{controller-fine, put-controller, put-open}
 
 -- 1. Well-formed hubs, changed ------------------------------------------------------------------------------------------------------------------
 

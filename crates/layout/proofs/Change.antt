@@ -22,8 +22,8 @@ use Rattle.model.specs.Proof.Tests.{and-true}
 use Rattle.octets.specs.Parts.{join, lengths, part, write-whole, writeAt}
 use Rattle.layout.specs.Places.{Ready, base, controllerOf, emptied, openAt, placeOf, putController, sizes}
 use Rattle.rules.specs.Effects.{withSettings}
-use Rattle.layout.specs.Reads.{present-controller, present-slot}
-use Rattle.layout.specs.Lens.{Shaped, block-put, all-long, join-block, piece-length, piece-read, piece-write, pieces, pieces-sized, shaped, state-is, state-put, withBlock, withSlot, writeIn}
+use Rattle.layout.proofs.Reading.{present-controller, present-slot}
+use Rattle.layout.proofs.Lens.{Shaped, block-put, all-long, join-block, piece-length, piece-read, piece-write, pieces, pieces-sized, shaped, state-is, state-put, withBlock, withSlot, writeIn}
 
 -- 1. One slot of the hub, changed -----------------------------------------------------------------------------------------------------------------
 

@@ -17,6 +17,8 @@ use Rattle.model.specs.Layout.{controllerBack, controllerIn, controllersIn, dec
 use Rattle.model.specs.Proof.Tests.{and-true}
 use Rattle.octets.specs.Parts.{part, getD-part, part-part, placeAt}
 use Rattle.layout.specs.Places.{Ready, base, controllerOf, openAt, placeOf, presentAt, sizes}
+use Rattle.model.specs.Meanings.{stateOk}
+use Rattle.model.specs.Proof.Demand3.{state-long}
 
 -- 1. The blocks of the decoded state ----------------------------------------------------------------------------------------------------------
 
@@ -78,6 +80,15 @@ unfolding openIn
 open-none o e = rw (e, openIn)
 
 -- 2. Present and absent -----------------------------------------------------------------------------------------------------------------------
+
+-- a present index is one of four
+pub present-below : (s : Octets) (i : ℕ) → presentAt s i ≡ true → i < 4
+unfolding presentAt
+present-below s i e = ltb-true i 4 (and-true (ltb i 4) _ e .0)
+
+-- the two tests, of the state and of the index, make `Ready`
+pub ready : (s : Octets) (i : ℕ) → stateOk s ≡ true → presentAt s i ≡ true → Ready s i
+ready s i ok here = record { ok = ok; here = here; long = state-long s ok; below = present-below s i here }
 
 -- the test of a present index, taken apart
 pub present-octet : (s : Octets) (i : ℕ) → presentAt s i ≡ true → (i < 4) × (eqb (getD (part s (base i) 4028) 0 0) 1 ≡ true)

@@ -15,13 +15,13 @@ use borrow.Author.Tests.{eqb-false, eq-eqb, ne-eqb}
 use lib.Dec.{eqb}
 use Rattle.model.specs.Octets.{Octets, le32, u16, u32}
 use Rattle.model.specs.State.{Table}
-use Rattle.model.specs.Tables.{entries, loaded, chop}
+use Rattle.model.specs.Tables.{entries, loaded, chop, free}
 use Rattle.model.specs.Layout.{occupancy, slotOctets, slots, region, slotsBack, tableBack}
 use Rattle.model.specs.Proof.Tests.{equal, either}
-use Rattle.model.specs.Proof.Region.{Sized, free, slot-write, occupancy-ones, occupancy-lt, occupancy-free}
+use Rattle.model.specs.Proof.Region.{Sized, slot-write, occupancy-ones, occupancy-lt, occupancy-free}
 use Rattle.model.specs.Proof.Tables.{length-chop}
 use Rattle.octets.specs.Parts.{part, writeAt, length-part, length-writeAt, write-split, write-left, write-right, write-whole}
-use Rattle.table.specs.Slots.{Canonical, tableAt, tableFrom}
+use Rattle.table.specs.Slots.{Canonical, tableAt}
 use Rattle.model.specs.Proof.Decode.{slots-back}
 use Rattle.model.specs.Proof.Room.{length-le32}
 
@@ -173,6 +173,10 @@ used-at s at size h = rw (word-at s at size h) at (occupancy-ones (tableAt s at 
 -- the lowest free slot, from the word
 pub free-at : (s : Octets) (at size : ℕ) → u32 s at < 4294967296 → trailingZeros 32 (4294967295 - u32 s at) ≡ free (tableAt s at size)
 free-at s at size h = (rw (length-table s at size, word-at s at size h) at (occupancy-free (tableAt s at size)))
+
+-- n slots from a place on, used by the bits of w, lowest first
+unfoldable pub tableFrom : Octets → ℕ → ℕ → ℕ → ℕ → Table
+tableFrom s size w place n = slotsBack w (chop size n (drop place s))
 
 -- a walk from a place on: one slot, and the rest
 from-step : (s : Octets) (size w place m : ℕ)

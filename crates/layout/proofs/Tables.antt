@@ -14,7 +14,7 @@ use Rattle.model.specs.Octets.{Octets}
 use Rattle.model.specs.State.{Table, settingsOf, tableOf, withHost, withTable}
 use Rattle.model.specs.Tables.{TableRule, blockedRule, chop, deviceRule, entries, every, identityKeyRule, linkKeyRule, longTermKeyRule, tableRules, uuidRule}
 use Rattle.model.specs.WellFormed.{tableOk, tablesOk}
-use Rattle.model.specs.Layout.{decode, encode, region, slotOctets, slots, tableBack}
+use Rattle.model.specs.Layout.{decode, encode, region, slotOctets, tableBack}
 use Rattle.model.specs.Proof.Decode.{table-back}
 use Rattle.model.specs.Proof.Region.{Sized}
 use Rattle.model.specs.Proof.Parts.{controller-fit, table-changed, table-ok}
@@ -23,11 +23,12 @@ use Rattle.model.specs.Proof.Tables.{table-fit}
 use Rattle.model.specs.Proof.Tests.{and-true, equal, no-way}
 use Rattle.octets.specs.Parts.{drop-take, part, placeAt, writeAt, u32-part}
 use Rattle.layout.specs.Places.{Ready, controllerOf, openAt, placeOf, putController, sizes, tablePlace}
-use Rattle.table.specs.Slots.{tableAt, sized-ok}
-use Rattle.layout.specs.Lens.{inside, pieces, regionPieces}
-use Rattle.layout.specs.Change.{controller-changed, controller-fine, piece-at}
-use Rattle.layout.specs.Kept.{controller-back, controller-ready, host-fine}
-use Rattle.table.specs.Laws.{length-region}
+use Rattle.table.specs.Slots.{tableAt}
+use Rattle.table.proofs.Slots.{sized-ok}
+use Rattle.layout.proofs.Lens.{inside, pieces, regionPieces}
+use Rattle.layout.proofs.Change.{controller-changed, controller-fine, piece-at}
+use Rattle.layout.proofs.Kept.{controller-back, controller-ready, host-fine}
+use Rattle.table.proofs.Regions.{length-region}
 
 -- 1. A table's octets, from the whole or from its region ----------------------------------------------------------------------------------------
 

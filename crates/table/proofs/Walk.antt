@@ -13,11 +13,9 @@ use lib.Count.{trailingZeros, under}
 use Rattle.model.specs.Octets.{Octets, u32}
 use Rattle.model.specs.State.{Table}
 use Rattle.model.specs.Tables.{entries}
-use Rattle.model.specs.Layout.{slots}
-use Rattle.model.specs.Proof.Region.{free}
 use Rattle.octets.specs.Parts.{part}
-use Rattle.table.specs.Slots.{InUse, NextUsed, firstAt, tableAt, tableFrom}
-use Rattle.table.specs.Laws.{length-table, from-used, from-free, from-zero, drop-from, table-from}
+use Rattle.table.specs.Slots.{InUse, NextUsed, firstAt, tableAt}
+use Rattle.table.proofs.Regions.{length-table, from-used, from-free, from-zero, drop-from, table-from, tableFrom}
 
 -- from a place on: the slots below the lowest bit are free, and the slot of that bit is in use
 next-from : (s : Octets) (size d n v place : ℕ) → n ≤ d → 0 < v → v < 2 ^ n

@@ -1,11 +1,11 @@
 -- The way from a call to the part that serves it: each test that the code makes, as one step of the model's meaning.
 use Prim.Native.Nat.{ℕ, _≤_, _<_}
-use mathlib.Core.Path.{_≡_, refl, ap, _∙_}
-use mathlib.Core.Bool.{Bool, true, false}
-use mathlib.Core.Option.{Option, none, some}
+use mathlib.Core.Path.{_≡_}
+use mathlib.Core.Bool.{true, false}
+use mathlib.Core.Option.{none, some}
 use borrow.Author.Tests.{lt-ltb, le-ltb}
 use Rattle.model.specs.Octets.{Octets}
-use Rattle.model.specs.State.{PlainHub, OpenCommand, Hub, controllerAt}
+use Rattle.model.specs.State.{PlainHub, controllerAt}
 use Rattle.model.specs.declared.Hardware.{Hardware}
 use Rattle.model.specs.Reasons.{codeUnknown, controllerAbsent}
 use Rattle.model.specs.Rules.{ImmediateRule, RadioRule, immediate, radio}
@@ -16,7 +16,7 @@ use Rattle.model.specs.Image.{image}
 use Rattle.model.specs.Layout.{decode}
 use Rattle.model.specs.Meanings.{stateOk, laidOut, meaning, nameOut, hubName}
 use Rattle.layout.specs.Places.{Ready, openAt, presentAt}
-use Rattle.layout.specs.Reads.{present-controller, absent-controller}
+use Rattle.layout.proofs.Reading.{present-controller, absent-controller}
 use Rattle.outcomes.specs.Outcomes.{ended, general, served, contended, dispatched, reported, named}
 
 -- 1. Answer 5 -----------------------------------------------------------------------------------------------------------------------------------

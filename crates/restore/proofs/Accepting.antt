@@ -16,23 +16,10 @@ use Rattle.model.specs.Layout.{encode}
 use Rattle.model.specs.Meanings.{badState, hubLoad, loadMeaning, loadedInto}
 use Rattle.model.specs.Proof.Tests.{no-way}
 use Rattle.octets.specs.Parts.{part}
-use Rattle.restore.specs.Filling.{found, found-some}
-use Rattle.restore.specs.Loading.{accepted}
-use Rattle.restore.specs.Checking.{behindOf, endAt}
+use Rattle.restore.proofs.Filling.{found-some}
+use Rattle.restore.specs.Checking.{behindOf, endAt, found, onward, scans, accepted}
 
 -- 1. The controllers of an image ---------------------------------------------------------------------------------------------------------------------
-
--- a test goes on where something is left
-unfoldable pub onward : (Octets → Bool) → Option Octets → Bool
-onward g none = false
-onward g (some o) = g o
-
--- n controllers of ascending indexes from `low` on lie in the octets, and nothing else
-unfoldable pub scans : ℕ → ℕ → Octets → Bool
-scans zero low [] = true
-scans zero low (x ∷ o) = false
-scans (suc n) low [] = false
-scans (suc n) low (i ∷ o) = (leb low i && leb i 3) && onward (scans n (suc i)) (behindOf (parseController o))
 
 -- a reader that goes on from a controller
 goes-on : (b : Bool) (c : Option (Parsed Controller)) (g : Parsed Controller → Option (List (Option Controller))) (h : Octets → Bool) → ((x : Parsed Controller) → found (g x) ≡ h (x .behind))
@@ -42,7 +29,7 @@ goes-on true none g h k = refl
 goes-on true (some x) g h k = k x
 goes-on false c g h k = refl
 
--- the model's reader finds them exactly if they lie there
+-- the model's reader finds n controllers exactly if they lie there
 controllers-scan : (n low : ℕ) (slots : List (Option Controller)) (o : Octets) → found (parseControllers n low slots o) ≡ scans n low o
 unfolding parseControllers scans found
 controllers-scan zero low slots [] = refl

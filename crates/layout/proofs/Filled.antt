@@ -17,11 +17,10 @@ use Rattle.model.specs.Meanings.{stateOk}
 use Rattle.model.specs.Proof.Demand3.{state-back, state-well}
 use Rattle.octets.specs.Parts.{join, lengths, placeAt, write-split, write-whole, writeAt}
 use Rattle.layout.specs.Places.{base, hardwareHead, openAt, placeOf, presentAt, putController, sizes, withClock}
-use Rattle.layout.specs.Reads.{absent-open, absent-slot}
-use Rattle.layout.specs.Lens.{Shaped, join-block, piece-write, pieces, regionPieces, shaped, state-is, state-put, withBlock, withSlot, write-in-sized, writeIn}
-use Rattle.model.specs.Hub.{plug}
-use Rattle.layout.specs.Change.{put-controller}
-use Rattle.table.specs.Laws.{word-over}
+use Rattle.layout.proofs.Reading.{absent-open, absent-slot}
+use Rattle.layout.proofs.Lens.{Shaped, join-block, piece-write, pieces, regionPieces, shaped, state-is, state-put, withBlock, withSlot, write-in-sized, writeIn}
+use Rattle.layout.proofs.Change.{put-controller}
+use Rattle.table.proofs.Regions.{word-over}
 
 -- 1. A block filled ---------------------------------------------------------------------------------------------------------------------------
 

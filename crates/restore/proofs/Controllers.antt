@@ -27,17 +27,15 @@ use Rattle.model.specs.Proof.Tests.{and-true, both, equal}
 use Rattle.octets.specs.Parts.{part}
 use Rattle.rules.specs.Effects.{withSettings}
 use Rattle.layout.specs.Places.{Ready, controllerOf, openAt, presentAt, putController}
-use Rattle.layout.specs.Reads.{absent-open}
-use Rattle.restore.specs.Filling.{Holds, found, found-some, held-controller, held-open, held-put, held-ready, some-found, withTables}
+use Rattle.layout.proofs.Reading.{absent-open}
+use Rattle.restore.specs.Filling.{withTables, imageSettings}
+use Rattle.restore.specs.Checking.{found}
+use Rattle.restore.proofs.Filling.{Holds, found-some, held-controller, held-open, held-put, held-ready, some-found}
 use Rattle.model.specs.Proof.Stays.{plugged-ok}
 
 -- 1. The fixed part of a controller ---------------------------------------------------------------------------------------------------------------------
 
--- the settings that the fixed part of a controller gives it: no power, no timer
-unfoldable pub imageSettings : Octets → Settings
-imageSettings o = record { radio = parseRadio o; host = record { timer = noTimer; bondable = bit 4 (number 0 (take 4 (drop 13 o))) } }
-
--- by the places of its parts in an image
+-- the settings that it gives the controller, by the places of its parts in an image
 unfoldable pub settingsFrom : Octets → ℕ → Settings
 settingsFrom image at = record {
   radio = record {
@@ -50,7 +48,7 @@ settingsFrom image at = record {
   host = record { timer = noTimer; bondable = eqb (number 0 (part image (at + 13) 4) / 16 % 2) 1 };
 }
 
--- they are the same
+-- they are those of the contracts, by the octets from its place on
 pub settings-from : (image : Octets) (at : ℕ) → settingsFrom image at ≡ imageSettings (drop at image)
 unfolding settingsFrom imageSettings parseRadio part bit
 settings-from image at = rw (drop-drop 7 at image, drop-drop 9 at image, drop-drop 13 at image, drop-drop 17 at image, getD-drop)

@@ -1,5 +1,5 @@
 -- The ways a command's function ends, each as one law over plain variables: from what its callees ensure to the contract that it states.
-use Prim.Native.Nat.{ℕ, _+_, _≤_}
+use Prim.Native.Nat.{ℕ, _≤_}
 use native.Mathlib.Omega.{arith}
 use mathlib.Core.Path.{_≡_, refl, sym, _∙_}
 use mathlib.Core.Bool.{true, false}
