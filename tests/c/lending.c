@@ -51,7 +51,7 @@ static uint8_t *place(int buffer, size_t length, int at_end)
     return at_end ? pages[buffer] + ROOM - PAGE - length : pages[buffer] + PAGE;
 }
 
-/* One of seven calls. The octets are those of a packet, an address or an image. */
+/* One of eight calls. The octets are those of a packet, an address or an image. */
 static uint64_t call(int which, uint8_t *state, size_t state_len, const uint8_t *octets, size_t octets_len, uint8_t *reply, size_t reply_len)
 {
     switch (which) {
@@ -61,6 +61,7 @@ static uint64_t call(int which, uint8_t *state, size_t state_len, const uint8_t 
     case 3: return hub_unplug(state, state_len, 1, reply, reply_len);
     case 4: return hub_plug(state, state_len, 1, octets, octets_len, 9, 15, 0x0281, reply, reply_len);
     case 5: return hub_save(state, state_len, reply, reply_len);
+    case 7: return hub_name(state, state_len, 2, 0, reply, reply_len);
     default: return hub_load(state, state_len, octets, octets_len);
     }
 }
@@ -68,7 +69,7 @@ static uint64_t call(int which, uint8_t *state, size_t state_len, const uint8_t 
 /* What a call answers where some of its buffers have no octets: first of all the state, then the reply, then the rest. */
 static unsigned wanted(int which, int no_state, int no_octets, int no_reply)
 {
-    static const unsigned refusals[] = { HUB_BAD_PACKET, HUB_DONE, HUB_DONE, HUB_DONE, HUB_BAD_ARGUMENT, HUB_DONE, HUB_BAD_IMAGE };
+    static const unsigned refusals[] = { HUB_BAD_PACKET, HUB_DONE, HUB_DONE, HUB_DONE, HUB_BAD_ARGUMENT, HUB_DONE, HUB_BAD_IMAGE, HUB_DONE };
     if (no_state)
         return HUB_BAD_STATE;
     if (no_reply && which != 6)
@@ -82,7 +83,7 @@ static void no_octets(int null)
     static const uint8_t version[] = { 1, 0, 0xFF, 0xFF, 0, 0 }, address[] = { 1, 2, 3, 4, 5, 6 };
     static uint8_t state[HUB_STATE_LEN], reply[HUB_IMAGE_MAX];
     uint8_t *none = null ? NULL : place(0, 0, 1);
-    for (int which = 0; which < 7; which++)
+    for (int which = 0; which < 8; which++)
         for (int mask = 0; mask < 8; mask++) {
             const uint8_t *octets = which == 0 ? version : which == 4 ? address : image;
             size_t length = which == 6 ? image_length : 6;

@@ -95,6 +95,7 @@ static void others(void)
     uint64_t unplug[10] = { ARG(state), HUB_STATE_LEN, 0, ARG(reply), HUB_REPLY_MIN };
     uint64_t plug[10] = { ARG(state), HUB_STATE_LEN, 1, ARG(address), 6, 9, 15, 0x0281, ARG(reply), HUB_REPLY_MIN };
     uint64_t save[10] = { ARG(state), HUB_STATE_LEN, ARG(reply), HUB_IMAGE_MAX };
+    uint64_t name[10] = { ARG(state), HUB_STATE_LEN, 0, 0, ARG(reply), HUB_REPLY_MIN };
     uint64_t load[10] = { ARG(state), HUB_STATE_LEN, ARG(image), 0 };
     for (report[2] = 0; report[2] < 3; report[2]++)
         worst = most((unsigned)worst, takes((entry)hub_report, report, HUB_DONE));
@@ -103,6 +104,7 @@ static void others(void)
     printf("hub_unplug %u\n", takes((entry)hub_unplug, unplug, HUB_DONE));
     load[3] = hub_count(hub_save(base, sizeof base, image, sizeof image));
     printf("hub_save %u\n", takes((entry)hub_save, save, HUB_DONE));
+    printf("hub_name %u\n", takes((entry)hub_name, name, HUB_DONE));
     printf("hub_load %u\n", takes((entry)hub_load, load, HUB_DONE));
     must("unplug", hub_unplug(base, sizeof base, 1, reply, sizeof reply), HUB_DONE);
     printf("hub_plug %u\n", takes((entry)hub_plug, plug, HUB_DONE));

@@ -10,7 +10,7 @@
 
 #include "busy.h"
 
-enum { ROUNDS = 8, TRIES = 25, OCTETS = 16, ENTRIES = 7, INPUTS = 24 };
+enum { ROUNDS = 8, TRIES = 25, OCTETS = 16, ENTRIES = 8, INPUTS = 25 };
 
 /* A call: an entry by its number, a packet for a command, else an index. */
 struct input {
@@ -19,7 +19,8 @@ struct input {
     struct packet packet;
 };
 
-static const char *const names[ENTRIES] = { "hub_command", "hub_report", "hub_clock", "hub_plug", "hub_unplug", "hub_save", "hub_load" };
+static const char *const names[ENTRIES] = { "hub_command", "hub_report", "hub_clock", "hub_plug", "hub_unplug", "hub_save", "hub_load",
+                                            "hub_name" };
 static const uint8_t address[6] = { 1, 2, 3, 4, 5, 6 };
 static uint8_t full[HUB_STATE_LEN], state[HUB_STATE_LEN], image[HUB_IMAGE_MAX], reply[HUB_IMAGE_MAX];
 static struct input inputs[INPUTS];
@@ -142,7 +143,8 @@ static uint64_t call(const struct input *in)
     case 3: return hub_plug(state, sizeof state, in->index, address, 6, 9, 15, 0x0281, reply, HUB_REPLY_MIN);
     case 4: return hub_unplug(state, sizeof state, in->index, reply, HUB_REPLY_MIN);
     case 5: return hub_save(state, sizeof state, reply, HUB_IMAGE_MAX);
-    default: return hub_load(state, sizeof state, image, sizeof image);
+    case 6: return hub_load(state, sizeof state, image, sizeof image);
+    default: return hub_name(state, sizeof state, in->index, 0, reply, HUB_REPLY_MIN);
     }
 }
 

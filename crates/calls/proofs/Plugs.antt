@@ -10,6 +10,9 @@ use lib.ListN.{length, take, drop, length-append}
 use lib.Dec.{ltb, lit≤}
 use lib.Seq.{take-all}
 use borrow.Author.Tests.{ne-eqb, lt-ltb, le-ltb}
+use Rattle.model.specs.Statuses as Statuses
+use Rattle.model.specs.Events as Events
+use Rattle.model.specs.Lengths as Lengths
 use Rattle.model.specs.declared.Hardware.{Hardware}
 use Rattle.model.specs.Octets.{Octets, u16, event, commandStatus}
 use Rattle.model.specs.State.{OpenCommand, PlainHub, controllerAt, hardwareOk, plugged, withController}
@@ -49,36 +52,41 @@ pub unplug-absent : (s : Octets) (i : ℕ) (d : Octets) (r : Answer) → stateOk
 unfolding unplugOut unplugged ended
 unplug-absent s i d r ok e n = rw (absent-controller s i e) (bad-argument s d badArgument r ok refl n)
 
-module _ (s : Octets) (i : ℕ) (d d′ s′ : Octets) (r : Answer) (g : Ready s i) (big : 1024 ≤ length d) (gone : s′ ≡ encode (emptied (decode s) i)) where
+module _ (s : Octets) (i : ℕ) (d d′ s′ : Octets) (r : Answer) (g : Ready s i) (big : Lengths.replyBuffer ≤ length d)
+    (gone : s′ ≡ encode (emptied (decode s) i)) where
   -- with what is owed to a command under way
-  removed : (x : Option OpenCommand) (n : ℕ) → openAt s i ≡ x → length (owedTo i x ++ event 0x0005 i []) ≡ n → n ≤ 1024 → r ≡ Done n → d′ ≡ writeAt d 0 (owedTo i x ++ event 0x0005 i [])
+  removed : (x : Option OpenCommand) (n : ℕ) → openAt s i ≡ x → length (owedTo i x ++ event Events.indexRemoved i []) ≡ n → n ≤ Lengths.replyBuffer
+      → r ≡ Done n → d′ ≡ writeAt d 0 (owedTo i x ++ event Events.indexRemoved i [])
       → Gives (laidOut (unplugged (decode s) i (unplugOut (decode s .plain) i (controllerAt (decode s .plain) i)))) r d d′ s′
   unfolding unplugOut unplugged laidOut emptied openAt underWay
   removed x n e l f m w =
       rw (present-controller s i g, e, m)
-      (gives-written (record { answer = 0; octets = owedTo i x ++ event 0x0005 i []; state = encode (emptied (decode s) i) }) (Done n) d d′ s′ refl (sym l) (omega arith) w gone)
+      (gives-written (record { answer = 0; octets = owedTo i x ++ event Events.indexRemoved i []; state = encode (emptied (decode s) i) }) (Done n) d
+      d′ s′ refl (sym l) (omega arith) w gone)
 
   -- the octets of the open command hold code 0, so nothing is under way: Index Removed is all that is written
-  pub unplug-quiet : (code : ℕ) → code ≡ u16 s (placeOf i 1) → code ≡ 0 → r ≡ Done 6 → d′ ≡ writeAt d 0 (event 0x0005 i [])
+  pub unplug-quiet : (code : ℕ) → code ≡ u16 s (placeOf i 1) → code ≡ 0 → r ≡ Done 6 → d′ ≡ writeAt d 0 (event Events.indexRemoved i [])
       → Gives (laidOut (unplugged (decode s) i (unplugOut (decode s .plain) i (controllerAt (decode s .plain) i)))) r d d′ s′
   unfolding owedTo
-  unplug-quiet code e z m w = removed none 6 (open-nothing s i g (sym e ∙ z)) (length-event 0x0005 i [] 0 refl) (lit≤ tt) m w
+  unplug-quiet code e z m w = removed none 6 (open-nothing s i g (sym e ∙ z)) (length-event Events.indexRemoved i [] 0 refl) (lit≤ tt) m w
 
   -- another code is under way: Command Status Invalid Index for it, then Index Removed
-  pub unplug-open : (code : ℕ) → code ≡ u16 s (placeOf i 1) → (code ≡ 0 → ⊥) → r ≡ Done 15 → (d₁ : Octets) → d₁ ≡ writeAt d 0 (commandStatus i code 0x11) → d′ ≡ writeAt d₁ 9 (event 0x0005 i [])
+  pub unplug-open : (code : ℕ) → code ≡ u16 s (placeOf i 1) → (code ≡ 0 → ⊥) → r ≡ Done 15 → (d₁ : Octets)
+      → d₁ ≡ writeAt d 0 (commandStatus i code Statuses.invalidIndex) → d′ ≡ writeAt d₁ 9 (event Events.indexRemoved i [])
       → Gives (laidOut (unplugged (decode s) i (unplugOut (decode s .plain) i (controllerAt (decode s .plain) i)))) r d d′ s′
   unfolding owedTo
   unplug-open code e z m d₁ w₁ w =
-      let a = length-status i code 0x11 in
-      let b = length-event 0x0005 i [] 0 refl in
-      let l : length (commandStatus i code 0x11 ++ event 0x0005 i []) ≡ 15 = rw (length-append, a, b) in
+      let a = length-status i code Statuses.invalidIndex in
+      let b = length-event Events.indexRemoved i [] 0 refl in
+      let l : length (commandStatus i code Statuses.invalidIndex ++ event Events.indexRemoved i []) ≡ 15 = rw (length-append, a, b) in
       removed (some (record { code = u16 s (placeOf i 1); params = _ })) 15 (open-command s i g (λ q. z (e ∙ q))) (rw (← e) l) (lit≤ tt) m
-      (rw (← e) (w ∙ rw w₁ (then d 0 (commandStatus i code 0x11) (event 0x0005 i []) 9 (rw a))))
+      (rw (← e) (w ∙ rw w₁ (then d 0 (commandStatus i code Statuses.invalidIndex) (event Events.indexRemoved i []) 9 (rw a))))
 
 -- 3. Plug ---------------------------------------------------------------------------------------------------------------------------------------
 
 -- an absent index below 4 and hardware that plug may give: Index Added, and the controller stands there
-plug-true : (p : PlainHub) (i : ℕ) (f : Hardware) → ltb i 4 ≡ true → hardwareOk f ≡ true → plugOut p i f none ≡ finished (event 0x0004 i []) (withController p i (some (plugged f)))
+plug-true : (p : PlainHub) (i : ℕ) (f : Hardware) → ltb i 4 ≡ true → hardwareOk f ≡ true
+    → plugOut p i f none ≡ finished (event Events.indexAdded i []) (withController p i (some (plugged f)))
 unfolding plugOut
 plug-true p i f e h = rw (e, h, plugOut)
 
@@ -106,23 +114,30 @@ module _ (s : Octets) (i : ℕ) (f : Hardware) (d : Octets) (r : Answer) (ok : s
   module _ (gone : presentAt s i ≡ false) where
     -- the index is no place for a controller: 6 (01, What a call answers)
     pub plug-above : 3 < i → r ≡ BadArgument → Gives (ended s (plugOut (decode s .plain) i f (controllerAt (decode s .plain) i))) r d d s
-    plug-above l n = rw (absent-controller s i gone) (bad-argument s d (plugOut (decode s .plain) i f none) r ok (plug-false (decode s .plain) i f (rw (le-ltb i 4 (omega arith)))) n)
+    plug-above l n =
+        rw (absent-controller s i gone) (bad-argument s d (plugOut (decode s .plain) i f none) r ok
+        (plug-false (decode s .plain) i f (rw (le-ltb i 4 (omega arith)))) n)
 
     -- 6 for hardware that plug may not give
     pub plug-unfit : hardwareOk f ≡ false → r ≡ BadArgument → Gives (ended s (plugOut (decode s .plain) i f (controllerAt (decode s .plain) i))) r d d s
-    plug-unfit e n = rw (absent-controller s i gone) (bad-argument s d (plugOut (decode s .plain) i f none) r ok (plug-false (decode s .plain) i f (rw e (and-false (ltb i 4)))) n)
+    plug-unfit e n =
+        rw (absent-controller s i gone) (bad-argument s d (plugOut (decode s .plain) i f none) r ok
+        (plug-false (decode s .plain) i f (rw e (and-false (ltb i 4)))) n)
 
     -- the address has too few octets or too many: 6 (01, What a call answers)
-    pub plug-short : (length (f .publicAddress) ≡ 6 → ⊥) → r ≡ BadArgument → Gives (ended s (plugOut (decode s .plain) i f (controllerAt (decode s .plain) i))) r d d s
+    pub plug-short : (length (f .publicAddress) ≡ 6 → ⊥) → r ≡ BadArgument
+        → Gives (ended s (plugOut (decode s .plain) i f (controllerAt (decode s .plain) i))) r d d s
     plug-short e n = plug-unfit (not-six f e) n
 
     -- else the plugged controller is put at its index, and Index Added is written
-    pub plug-done : (d′ s′ : Octets) → 1024 ≤ length d → i ≤ 3 → hardwareOk f ≡ true → s′ ≡ encode (putController (decode s) i (plugged f)) → d′ ≡ writeAt d 0 (event 0x0004 i []) → r ≡ Done 6
+    pub plug-done : (d′ s′ : Octets) → Lengths.replyBuffer ≤ length d → i ≤ 3 → hardwareOk f ≡ true
+        → s′ ≡ encode (putController (decode s) i (plugged f)) → d′ ≡ writeAt d 0 (event Events.indexAdded i []) → r ≡ Done 6
         → Gives (ended s (plugOut (decode s .plain) i f (controllerAt (decode s .plain) i))) r d d′ s′
     unfolding putController
     plug-done d′ s′ big l h k w n =
         rw (absent-controller s i gone, plug-true (decode s .plain) i f (lt-ltb i 4 (omega arith)) h)
-        (ends-done s (event 0x0004 i []) (withController (decode s .plain) i (some (plugged f))) 6 d d′ s′ r n (length-event 0x0004 i [] 0 refl) (omega arith) w k)
+        (ends-done s (event Events.indexAdded i []) (withController (decode s .plain) i (some (plugged f))) 6 d d′ s′ r n
+        (length-event Events.indexAdded i [] 0 refl) (omega arith) w k)
 
 -- the hardware made of the arguments
 pub made-given : (address a : Octets) (v m n : ℕ) → length address ≡ 6 → a ≡ part address 0 6
@@ -143,6 +158,7 @@ module _ (s : Octets) (i : ℕ) (f g : Hardware) (d : Octets) (r : Answer) (e : 
   made-unfit h n = plug-unfit s i f d r ok gone (rw (← e) h) n
 
   -- plug may give it: the controller is put at its index, and Index Added is written
-  pub made-done : (d′ s′ : Octets) → 1024 ≤ length d → i ≤ 3 → hardwareOk g ≡ true → s′ ≡ encode (putController (decode s) i (plugged g)) → d′ ≡ writeAt d 0 (event 0x0004 i []) → r ≡ Done 6
+  pub made-done : (d′ s′ : Octets) → Lengths.replyBuffer ≤ length d → i ≤ 3 → hardwareOk g ≡ true
+      → s′ ≡ encode (putController (decode s) i (plugged g)) → d′ ≡ writeAt d 0 (event Events.indexAdded i []) → r ≡ Done 6
       → Gives (ended s (plugOut (decode s .plain) i f (controllerAt (decode s .plain) i))) r d d′ s′
   made-done d′ s′ big l h k w n = plug-done s i f d r ok gone d′ s′ big l (rw (← e) h) (rw (← e) k) w n

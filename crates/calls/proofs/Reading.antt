@@ -10,6 +10,8 @@ use mathlib.Core.Option.{Option, none, some}
 use lib.ListN.{length, getD, length-append}
 use lib.Seq.{set-getD}
 use borrow.Author.Tests.{le-leb, lt-leb}
+use Rattle.model.specs.Events as Events
+use Rattle.model.specs.Lengths as Lengths
 use Rattle.model.specs.declared.Timer.{Timer}
 use Rattle.model.specs.declared.Settings.{Settings}
 use Rattle.model.specs.Octets.{Octets, le32, event}
@@ -39,7 +41,8 @@ use Rattle.model.specs.Proof.Stays.{tick-ok}
 -- 1. One index ------------------------------------------------------------------------------------------------------------------------------------
 
 -- a timer that ends owes New Settings, with the settings as its end leaves them
-event-due : (step i : ℕ) (c : Controller) → ends step (c .host .settings .timer) ≡ true → tickEvent step i (some c) ≡ event 0x0006 i (le32 (currentSettings (settingsOf (tick step c))))
+event-due : (step i : ℕ) (c : Controller) → ends step (c .host .settings .timer) ≡ true
+    → tickEvent step i (some c) ≡ event Events.newSettings i (le32 (currentSettings (settingsOf (tick step c))))
 unfolding tickEvent
 event-due step i c e = rw (e, tickEvent)
 
@@ -67,8 +70,10 @@ tick-absent s step i place d ok l e =
       reply = rw (a, tickEvent) (nothing-written d place);
     }
 
-module _ (s : Octets) (step i place : ℕ) (d d′ s′ : Octets) (g : Ready s i) (m k : Settings) (t u : Timer) (b : Bool) (em : m ≡ settingsOf (controllerOf s i)) (et : t ≡ m .host .timer)
-    (eb : b ≡ ends step t) (eu : u ≡ countdown step t) (ek : k ≡ settingsTimer m u) (put : s′ ≡ encode (putController (decode s) i (withSettings (controllerOf s i) k))) where
+module _ (s : Octets) (step i place : ℕ) (d d′ s′ : Octets) (g : Ready s i) (m k : Settings) (t u : Timer) (b : Bool)
+    (em : m ≡ settingsOf (controllerOf s i)) (et : t ≡ m .host .timer)
+    (eb : b ≡ ends step t) (eu : u ≡ countdown step t) (ek : k ≡ settingsTimer m u)
+    (put : s′ ≡ encode (putController (decode s) i (withSettings (controllerOf s i) k))) where
   -- the timer that was read is the controller's
   timer-is : t ≡ controllerOf s i .host .settings .timer
   unfolding settingsOf
@@ -102,9 +107,11 @@ module _ (s : Octets) (step i place : ℕ) (d d′ s′ : Octets) (g : Ready s i
   well = rw state-is (controller-ready s i g (tick step (controllerOf s i)) fine beside)
 
   -- the timer ends: New Settings
-  pub tick-ends : (w : ℕ) → b ≡ true → w ≡ currentSettings k → d′ ≡ writeAt d place (event 0x0006 i (le32 w)) → Ticked s step i place (place + 10) d d′ s′
+  pub tick-ends : (w : ℕ) → b ≡ true → w ≡ currentSettings k → d′ ≡ writeAt d place (event Events.newSettings i (le32 w))
+      → Ticked s step i place (place + 10) d d′ s′
   tick-ends w e ew wr =
-      let x : tickEvent step i (some (controllerOf s i)) ≡ event 0x0006 i (le32 w) = event-due step i (controllerOf s i) (rw (← timer-is) (sym eb ∙ e)) ∙ rw (ew, settings-are) in
+      let x : tickEvent step i (some (controllerOf s i)) ≡ event Events.newSettings i (le32 w) = event-due step i (controllerOf s i)
+      (rw (← timer-is) (sym eb ∙ e)) ∙ rw (ew, settings-are) in
       let l = length-new-settings i w in
       record {
         hub = hub-is;
@@ -137,19 +144,22 @@ out-late p reading h = rw (le-leb 2147483648 (stepOf (p .clock) reading) h, cloc
 
 -- a smaller step is done: the events that are due, every timer counted down, and the new reading
 out-done : (p : PlainHub) (reading : ℕ) → stepOf (p .clock) reading < 2147483648
-    → clockOut p reading ≡ finished (tickEvents (stepOf (p .clock) reading) 0 (p .controllers)) (record { clock = reading; controllers = map (tickSlot (stepOf (p .clock) reading)) (p .controllers) })
+    → clockOut p reading ≡ finished (tickEvents (stepOf (p .clock) reading) 0 (p .controllers))
+    (record { clock = reading; controllers = map (tickSlot (stepOf (p .clock) reading)) (p .controllers) })
 unfolding clockOut
 out-done p reading h = rw (lt-leb 2147483648 (stepOf (p .clock) reading) h, clockOut)
 
 -- over the lent state: a step so long is refused
-pub clock-late : (s : Octets) (last step reading : ℕ) (d : Octets) (r : Answer) → stateOk s ≡ true → last ≡ decode s .plain .clock → step ≡ stepOf last reading → 2147483648 ≤ step → r ≡ BadArgument
+pub clock-late : (s : Octets) (last step reading : ℕ) (d : Octets) (r : Answer) → stateOk s ≡ true → last ≡ decode s .plain .clock
+    → step ≡ stepOf last reading → 2147483648 ≤ step → r ≡ BadArgument
     → Gives (ended s (clockOut (decode s .plain) reading)) r d d s
 clock-late s last step reading d r ok el es h n =
     let e : step ≡ stepOf (decode s .plain .clock) reading = es ∙ rw el in
     bad-argument s d (clockOut (decode s .plain) reading) r ok (out-late (decode s .plain) reading (omega arith)) n
 
 -- the events, index after index
-events-step : (step i : ℕ) (x : Option Controller) (cs : List (Option Controller)) → tickEvents step i (x ∷ cs) ≡ tickEvent step i x ++ tickEvents step (suc i) cs
+events-step : (step i : ℕ) (x : Option Controller) (cs : List (Option Controller))
+    → tickEvents step i (x ∷ cs) ≡ tickEvent step i x ++ tickEvents step (suc i) cs
 unfolding tickEvents tickEvent
 events-step step i none cs = refl
 events-step step i (some c) cs = refl
@@ -210,13 +220,20 @@ module _ (step v : ℕ) (u : ℕ) (w x y z : Option Controller) (os : List (Opti
 
   -- the place behind the last event is the count of octets of all of them
   pub count-four : e ≡ length (tickEvents step 0 (w ∷ x ∷ y ∷ z ∷ []))
-  count-four = (rw h₃ at (t₃ .count)) ∙ rw (ec, events-four step w x y z, length-append ((tickEvent step 0 w ++ tickEvent step 1 x) ++ tickEvent step 2 y) (tickEvent step 3 z))
+  count-four =
+      (rw h₃ at (t₃ .count)) ∙ rw (
+        ec,
+        events-four step w x y z,
+        length-append ((tickEvent step 0 w ++ tickEvent step 1 x) ++ tickEvent step 2 y)
+            (tickEvent step 3 z),
+      )
 
   -- the reply begins with the events of all four indexes, ascending
   pub reply-four : d₄ ≡ writeAt d 0 (tickEvents step 0 (w ∷ x ∷ y ∷ z ∷ []))
   reply-four =
       let x₁ : d₁ ≡ writeAt d 0 (tickEvent step 0 w) = rw h at (t₀ .reply) in
-      let x₂ : d₂ ≡ writeAt d 0 (tickEvent step 0 w ++ tickEvent step 1 x) = (rw h₁ at (t₁ .reply)) ∙ rw x₁ (then d 0 (tickEvent step 0 w) (tickEvent step 1 x) a (rw (zero-add, ea))) in
+      let x₂ : d₂ ≡ writeAt d 0 (tickEvent step 0 w ++ tickEvent step 1 x) = (rw h₁ at (t₁ .reply))
+      ∙ rw x₁ (then d 0 (tickEvent step 0 w) (tickEvent step 1 x) a (rw (zero-add, ea))) in
       let x₃ : d₃ ≡ writeAt d 0 ((tickEvent step 0 w ++ tickEvent step 1 x) ++ tickEvent step 2 y) =
       (rw h₂ at (t₂ .reply)) ∙ rw x₂ (then d 0 (tickEvent step 0 w ++ tickEvent step 1 x) (tickEvent step 2 y) b (rw (zero-add, eb))) in
       let x₄ : d₄ ≡ writeAt d 0 (((tickEvent step 0 w ++ tickEvent step 1 x) ++ tickEvent step 2 y) ++ tickEvent step 3 z) =
@@ -224,8 +241,10 @@ module _ (step v : ℕ) (u : ℕ) (w x y z : Option Controller) (os : List (Opti
       rw (events-four step w x y z) x₄
 
 -- a decoded state has four slots
-pub clock-done : (s s₁ s₂ s₃ s₄ s₅ d d₁ d₂ d₃ d₄ : Octets) (last step reading a b c e : ℕ) (r : Answer) → 1024 ≤ length d → last ≡ decode s .plain .clock → step ≡ stepOf last reading → step < 2147483648
-    → Ticked s step 0 0 a d d₁ s₁ → Ticked s₁ step 1 a b d₁ d₂ s₂ → Ticked s₂ step 2 b c d₂ d₃ s₃ → Ticked s₃ step 3 c e d₃ d₄ s₄ → s₅ ≡ encode (withClock (decode s₄) reading) → r ≡ Done e
+pub clock-done : (s s₁ s₂ s₃ s₄ s₅ d d₁ d₂ d₃ d₄ : Octets) (last step reading a b c e : ℕ) (r : Answer) → Lengths.replyBuffer ≤ length d
+    → last ≡ decode s .plain .clock → step ≡ stepOf last reading → step < 2147483648
+    → Ticked s step 0 0 a d d₁ s₁ → Ticked s₁ step 1 a b d₁ d₂ s₂ → Ticked s₂ step 2 b c d₂ d₃ s₃ → Ticked s₃ step 3 c e d₃ d₄ s₄
+    → s₅ ≡ encode (withClock (decode s₄) reading) → r ≡ Done e
     → Gives (ended s (clockOut (decode s .plain) reading)) r d d₄ s₅
 unfolding decode controllersIn
 clock-done s s₁ s₂ s₃ s₄ s₅ d d₁ d₂ d₃ d₄ last step reading a b c e r big el es l t₀ t₁ t₂ t₃ put n =
@@ -236,7 +255,8 @@ clock-done s s₁ s₂ s₃ s₄ s₅ d d₁ d₂ d₃ d₄ last step reading a 
     let f₃ = t₃ .far in
     let o = out-done (decode s .plain) reading (rw (← q) l) in
     rw (o, ← q)
-    (ends-done s (tickEvents step 0 (decode s .plain .controllers)) (record { clock = reading; controllers = map (tickSlot step) (decode s .plain .controllers) }) e d d₄ s₅ r n
+    (ends-done s (tickEvents step 0 (decode s .plain .controllers))
+    (record { clock = reading; controllers = map (tickSlot step) (decode s .plain .controllers) }) e d d₄ s₅ r n
     (sym (count-four step reading _ _ _ _ _ _ s s₁ s₂ s₃ s₄ s₅ d d₁ d₂ d₃ d₄ a b c e refl t₀ t₁ t₂ t₃ put)) (omega arith)
     (reply-four step reading _ _ _ _ _ _ s s₁ s₂ s₃ s₄ s₅ d d₁ d₂ d₃ d₄ a b c e refl t₀ t₁ t₂ t₃ put)
     (state-four step reading _ _ _ _ _ _ s s₁ s₂ s₃ s₄ s₅ d d₁ d₂ d₃ d₄ a b c e refl t₀ t₁ t₂ t₃ put))

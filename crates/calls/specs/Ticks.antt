@@ -6,6 +6,8 @@ use mathlib.Core.Bool.{true, false}
 use mathlib.Core.List.{[]}
 use mathlib.Core.Option.{Option, none, some}
 use lib.ListN.{length, getD}
+use Rattle.model.specs.Events as Events
+use Rattle.model.specs.Lengths as Lengths
 use Rattle.model.specs.Octets.{Octets, event, le32}
 use Rattle.model.specs.State.{Controller, Hub, currentSettings, settingsOf, withController}
 use Rattle.model.specs.Hub.{ends, tick, tickSlot}
@@ -21,7 +23,7 @@ tickedAt step i h = record { plain = withController (h .plain) i (tickSlot step 
 unfoldable pub tickEvent : ℕ → ℕ → Option Controller → Octets
 tickEvent step i none = []
 tickEvent step i (some c) = elim (ends step (c .host .settings .timer)) [
-  | true ↦ event 0x0006 i (le32 (currentSettings (settingsOf (tick step c))))
+  | true ↦ event Events.newSettings i (le32 (currentSettings (settingsOf (tick step c))))
   | false ↦ []
 ]
 
@@ -29,7 +31,7 @@ tickEvent step i (some c) = elim (ends step (c .host .settings .timer)) [
 pub record Ticked (s : Octets) (step i place r : ℕ) (before after left : Octets) : Type 0 where
   pub hub : decode left ≡ tickedAt step i (decode s)
   pub ok : stateOk left ≡ true
-  pub long : length left ≡ 16116
+  pub long : length left ≡ Lengths.state
   pub far : r ≤ place + 10
   pub count : r ≡ place + length (tickEvent step i (getD (decode s .plain .controllers) i none))
   pub reply : after ≡ writeAt before place (tickEvent step i (getD (decode s .plain .controllers) i none))

@@ -29,15 +29,15 @@ use Rattle.layout.proofs.Reading.{name-at}
 use Rattle.octets.specs.Parts.{getD-part, length-part, part, placeAt}
 use Rattle.octets.proofs.Laws.{part-suc}
 use Rattle.rules.specs.declared.Decision.{Decision}
-use Rattle.rules.specs.Decisions.{decision, isWait, settingsOk}
+use Rattle.rules.specs.Decisions.{decision, isStarted, settingsOk}
 use Rattle.checks.specs.Tests.{and-on}
-use Rattle.checks.specs.Settings.{flagsFine}
-use Rattle.checks.specs.Present.{blockAt, presentFine}
+use Rattle.checks.specs.Settings.{flagsOctetsOk}
+use Rattle.checks.specs.Present.{blockAt, controllerOctetsOk}
 use Rattle.checks.specs.Slots.{freeZero, zero-rest}
-use Rattle.checks.specs.Tables.{drop-part, tableFine, tablesFine, total, assoc}
+use Rattle.checks.specs.Tables.{drop-part, tableOctetsOk, tablesOctetsOk, total, assoc}
 use Rattle.records.specs.Slots.{no-slots, recordsAt}
 use Rattle.table.specs.Slots.{tableAt}
-use Rattle.checks.specs.Open.{fine-connectable, fine-discoverable, fine-low-energy, fine-none, fine-other, fine-powered, fine-some, openFine, startedFine}
+use Rattle.checks.specs.Open.{fine-connectable, fine-discoverable, fine-low-energy, fine-none, fine-other, fine-powered, fine-some, openOctetsOk, startedOctetsOk}
 use Rattle.layout.proofs.Tables.{rules-six}
 
 -- a test of the code, as the model's test
@@ -92,7 +92,7 @@ name-is s i at e = rw (e, ← name-at s i, getD-part s (placeOf i 4) 260 248 (om
 -- 3. The open command -------------------------------------------------------------------------------------------------------------------------
 
 -- nothing under way
-pub opens-none : (x : RadioSettings) (s : Octets) (at code : ℕ) → code ≡ u16 s at → code ≡ 0 → allZero (part s (at + 2) 3) ≡ openFine x (u16 s at) (part s (at + 2) 3)
+pub opens-none : (x : RadioSettings) (s : Octets) (at code : ℕ) → code ≡ u16 s at → code ≡ 0 → allZero (part s (at + 2) 3) ≡ openOctetsOk x (u16 s at) (part s (at + 2) 3)
 opens-none x s at code e z = sym (fine-none x (u16 s at) (part s (at + 2) 3) (sym e ∙ z))
 
 module _ (x : RadioSettings) (s : Octets) (at code : ℕ) (e : code ≡ u16 s at) (n : code ≡ 0 → ⊥) (h : at + 5 ≤ length s) where
@@ -115,45 +115,45 @@ module _ (x : RadioSettings) (s : Octets) (at code : ℕ) (e : code ≡ u16 s at
   rest = let q : at + 2 + 1 ≡ at + 3 = omega arith in drop-part s (at + 2) 1 2 ∙ rw q
 
   -- as the code is not zero, the test is that of a command that would be started
-  fine : startedFine x code (part s (at + 2) 3) ≡ openFine x (u16 s at) (part s (at + 2) 3)
+  fine : startedOctetsOk x code (part s (at + 2) 3) ≡ openOctetsOk x (u16 s at) (part s (at + 2) 3)
   fine = rw (← e) (sym (fine-some x code (part s (at + 2) 3) n))
 
   -- Set Discoverable uses all three: it is fine exactly if it would wait for the radio
-  pub opens-discoverable : code ≡ 6 → (d : Decision) → d ≡ decision setDiscoverable x (take (at + 5 - (at + 2)) (drop (at + 2) s)) → isWait d ≡ openFine x (u16 s at) (part s (at + 2) 3)
+  pub opens-discoverable : code ≡ 6 → (d : Decision) → d ≡ decision setDiscoverable x (take (at + 5 - (at + 2)) (drop (at + 2) s)) → isStarted d ≡ openOctetsOk x (u16 s at) (part s (at + 2) 3)
   opens-discoverable q d f = rw (f, all-lent) (sym (fine-discoverable x (part s (at + 2) 3) three code q) ∙ fine)
 
   -- one parameter octet, and zeros behind it
   module _ (z : allZero (part s (at + 3) 2) ≡ true) where
     -- Set Powered is fine exactly if it would wait for the radio
-    pub opens-powered : code ≡ 5 → (d : Decision) → d ≡ decision setPowered x (take (at + 3 - (at + 2)) (drop (at + 2) s)) → isWait d ≡ openFine x (u16 s at) (part s (at + 2) 3)
-    opens-powered q d f = rw (f, first-lent) (sym (fine-powered x (part s (at + 2) 3) three code q ∙ rw (rest, z) (and-on (isWait (decision setPowered x (take 1 (part s (at + 2) 3)))))) ∙ fine)
+    pub opens-powered : code ≡ 5 → (d : Decision) → d ≡ decision setPowered x (take (at + 3 - (at + 2)) (drop (at + 2) s)) → isStarted d ≡ openOctetsOk x (u16 s at) (part s (at + 2) 3)
+    opens-powered q d f = rw (f, first-lent) (sym (fine-powered x (part s (at + 2) 3) three code q ∙ rw (rest, z) (and-on (isStarted (decision setPowered x (take 1 (part s (at + 2) 3)))))) ∙ fine)
 
     -- the same, of Set Connectable
-    pub opens-connectable : code ≡ 7 → (d : Decision) → d ≡ decision setConnectable x (take (at + 3 - (at + 2)) (drop (at + 2) s)) → isWait d ≡ openFine x (u16 s at) (part s (at + 2) 3)
-    opens-connectable q d f = rw (f, first-lent) (sym (fine-connectable x (part s (at + 2) 3) three code q ∙ rw (rest, z) (and-on (isWait (decision setConnectable x (take 1 (part s (at + 2) 3)))))) ∙ fine)
+    pub opens-connectable : code ≡ 7 → (d : Decision) → d ≡ decision setConnectable x (take (at + 3 - (at + 2)) (drop (at + 2) s)) → isStarted d ≡ openOctetsOk x (u16 s at) (part s (at + 2) 3)
+    opens-connectable q d f = rw (f, first-lent) (sym (fine-connectable x (part s (at + 2) 3) three code q ∙ rw (rest, z) (and-on (isStarted (decision setConnectable x (take 1 (part s (at + 2) 3)))))) ∙ fine)
 
     -- the same, of Set Low Energy
-    pub opens-low-energy : code ≡ 13 → (d : Decision) → d ≡ decision setLowEnergy x (take (at + 3 - (at + 2)) (drop (at + 2) s)) → isWait d ≡ openFine x (u16 s at) (part s (at + 2) 3)
-    opens-low-energy q d f = rw (f, first-lent) (sym (fine-low-energy x (part s (at + 2) 3) three code q ∙ rw (rest, z) (and-on (isWait (decision setLowEnergy x (take 1 (part s (at + 2) 3)))))) ∙ fine)
+    pub opens-low-energy : code ≡ 13 → (d : Decision) → d ≡ decision setLowEnergy x (take (at + 3 - (at + 2)) (drop (at + 2) s)) → isStarted d ≡ openOctetsOk x (u16 s at) (part s (at + 2) 3)
+    opens-low-energy q d f = rw (f, first-lent) (sym (fine-low-energy x (part s (at + 2) 3) three code q ∙ rw (rest, z) (and-on (isStarted (decision setLowEnergy x (take 1 (part s (at + 2) 3)))))) ∙ fine)
 
   -- no other command waits
-  pub opens-other : (code ≡ 6 → ⊥) → (code ≡ 5 → ⊥) → (code ≡ 7 → ⊥) → (code ≡ 13 → ⊥) → false ≡ openFine x (u16 s at) (part s (at + 2) 3)
+  pub opens-other : (code ≡ 6 → ⊥) → (code ≡ 5 → ⊥) → (code ≡ 7 → ⊥) → (code ≡ 13 → ⊥) → false ≡ openOctetsOk x (u16 s at) (part s (at + 2) 3)
   opens-other a b c d = sym (fine-other x (part s (at + 2) 3) code b a c d) ∙ fine
 
   -- and none of one parameter octet has others behind it
-  pub opens-more : (code ≡ 6 → ⊥) → allZero (part s (at + 3) 2) ≡ false → false ≡ openFine x (u16 s at) (part s (at + 2) 3)
+  pub opens-more : (code ≡ 6 → ⊥) → allZero (part s (at + 3) 2) ≡ false → false ≡ openOctetsOk x (u16 s at) (part s (at + 2) 3)
   opens-more a z = five (eqb code 5) refl
     where
-      thirteen : (y : Bool) → eqb code 13 ≡ y → (code ≡ 5 → ⊥) → (code ≡ 7 → ⊥) → false ≡ openFine x (u16 s at) (part s (at + 2) 3)
-      thirteen true q b c = sym (fine-low-energy x (part s (at + 2) 3) three code (eqb-true code 13 q) ∙ rw (rest, z) (and-off (isWait (decision setLowEnergy x (take 1 (part s (at + 2) 3)))))) ∙ fine
+      thirteen : (y : Bool) → eqb code 13 ≡ y → (code ≡ 5 → ⊥) → (code ≡ 7 → ⊥) → false ≡ openOctetsOk x (u16 s at) (part s (at + 2) 3)
+      thirteen true q b c = sym (fine-low-energy x (part s (at + 2) 3) three code (eqb-true code 13 q) ∙ rw (rest, z) (and-off (isStarted (decision setLowEnergy x (take 1 (part s (at + 2) 3)))))) ∙ fine
       thirteen false q b c = opens-other a b c (eqb-false code 13 q)
 
-      seven : (y : Bool) → eqb code 7 ≡ y → (code ≡ 5 → ⊥) → false ≡ openFine x (u16 s at) (part s (at + 2) 3)
-      seven true q b = sym (fine-connectable x (part s (at + 2) 3) three code (eqb-true code 7 q) ∙ rw (rest, z) (and-off (isWait (decision setConnectable x (take 1 (part s (at + 2) 3)))))) ∙ fine
+      seven : (y : Bool) → eqb code 7 ≡ y → (code ≡ 5 → ⊥) → false ≡ openOctetsOk x (u16 s at) (part s (at + 2) 3)
+      seven true q b = sym (fine-connectable x (part s (at + 2) 3) three code (eqb-true code 7 q) ∙ rw (rest, z) (and-off (isStarted (decision setConnectable x (take 1 (part s (at + 2) 3)))))) ∙ fine
       seven false q b = thirteen (eqb code 13) refl b (eqb-false code 7 q)
 
-      five : (y : Bool) → eqb code 5 ≡ y → false ≡ openFine x (u16 s at) (part s (at + 2) 3)
-      five true q = sym (fine-powered x (part s (at + 2) 3) three code (eqb-true code 5 q) ∙ rw (rest, z) (and-off (isWait (decision setPowered x (take 1 (part s (at + 2) 3)))))) ∙ fine
+      five : (y : Bool) → eqb code 5 ≡ y → false ≡ openOctetsOk x (u16 s at) (part s (at + 2) 3)
+      five true q = sym (fine-powered x (part s (at + 2) 3) three code (eqb-true code 5 q) ∙ rw (rest, z) (and-off (isStarted (decision setPowered x (take 1 (part s (at + 2) 3)))))) ∙ fine
       five false q = seven (eqb code 7) refl (eqb-false code 5 q)
 
 -- 4. Tables -----------------------------------------------------------------------------------------------------------------------------------
@@ -188,29 +188,29 @@ module _ (u : TableRule) (f : Hardware) (s : Octets) (at size w : ℕ) (e : size
   records-are = rw q
 
   -- a free slot is not zero
-  pub table-spoilt : freeZero s size (at + 4) 32 w ≡ false → false ≡ tableFine u f s at
-  unfolding tableFine
+  pub table-spoilt : freeZero s size (at + 4) 32 w ≡ false → false ≡ tableOctetsOk u f s at
+  unfolding tableOctetsOk
   table-spoilt z = let y : freeZero s (u .size) (at + 4) 32 (u32 s at) ≡ false = rw (e, q) at z in
       sym (rw (y, and-off (supportOk u f (entries (tableAt s at (u .size)))), and-off (recordsOk u (entries (tableAt s at (u .size))))))
 
   -- no slot is in use
-  pub table-empty : w ≡ 0 → freeZero s size (at + 4) 32 w ≡ true → true ≡ tableFine u f s at
-  unfolding tableFine recordsOk supportOk every distinct empty
+  pub table-empty : w ≡ 0 → freeZero s size (at + 4) 32 w ≡ true → true ≡ tableOctetsOk u f s at
+  unfolding tableOctetsOk recordsOk supportOk every distinct empty
   table-empty v z =
       let y : freeZero s (u .size) (at + 4) 32 (u32 s at) ≡ true = rw (e, q) at z in
       let r : recordsAt s (u .size) (at + 4) 32 w ≡ [] = rw v (no-slots (u .size) 32 (drop (at + 4) s)) in
       sym (rw (records-are, r, y))
 
   -- its records need support that there is not
-  pub table-unsupported : (w ≡ 0 → ⊥) → w < 4294967296 → passes (u .support f) ≡ false → false ≡ tableFine u f s at
-  unfolding tableFine supportOk
+  pub table-unsupported : (w ≡ 0 → ⊥) → w < 4294967296 → passes (u .support f) ≡ false → false ≡ tableOctetsOk u f s at
+  unfolding tableOctetsOk supportOk
   table-unsupported v l p =
       let r : empty (recordsAt s (u .size) (at + 4) 32 w) ≡ false = some-used (u .size) 32 w (drop (at + 4) s) v l in
       sym (rw (records-are, r, p) (and-off (recordsOk u (recordsAt s (u .size) (at + 4) 32 w))))
 
   -- else its records tell
-  pub table-told : freeZero s size (at + 4) 32 w ≡ true → passes (u .support f) ≡ true → recordsOk u (recordsAt s (u .size) (at + 4) 32 w) ≡ tableFine u f s at
-  unfolding tableFine supportOk
+  pub table-told : freeZero s size (at + 4) 32 w ≡ true → passes (u .support f) ≡ true → recordsOk u (recordsAt s (u .size) (at + 4) 32 w) ≡ tableOctetsOk u f s at
+  unfolding tableOctetsOk supportOk
   table-told z p =
       let y : freeZero s (u .size) (at + 4) 32 (u32 s at) ≡ true = rw (e, q) at z in
       sym (rw (records-are, p, y, or-true (empty (recordsAt s (u .size) (at + 4) 32 w))) (and-on (recordsOk u (recordsAt s (u .size) (at + 4) 32 w))))
@@ -228,35 +228,35 @@ module _ (s : Octets) (at k : ℕ) (l : k < 6) where
   tables-room end h = let g : at + total (ruleAt k ∷ drop (k + 1) tableRules) ≤ end = rw (rules-from k l) at h in omega arith
 
   -- they are fine if table k is, and those behind it are from its end on
-  next : (f : Hardware) → tablesFine f (drop k tableRules) s at ≡ tableFine (ruleAt k) f s at && tablesFine f (drop (k + 1) tableRules) s (at + (4 + ruleAt k .size * 32))
-  unfolding tablesFine
+  next : (f : Hardware) → tablesOctetsOk f (drop k tableRules) s at ≡ tableOctetsOk (ruleAt k) f s at && tablesOctetsOk f (drop (k + 1) tableRules) s (at + (4 + ruleAt k .size * 32))
+  unfolding tablesOctetsOk
   next f = rw (rules-from k l)
 
   -- where table k is fine, those behind it tell
-  pub tables-turn : (f : Hardware) → tableFine (ruleAt k) f s at ≡ true → tablesFine f (drop (k + 1) tableRules) s (at + (4 + ruleAt k .size * 32)) ≡ tablesFine f (drop k tableRules) s at
+  pub tables-turn : (f : Hardware) → tableOctetsOk (ruleAt k) f s at ≡ true → tablesOctetsOk f (drop (k + 1) tableRules) s (at + (4 + ruleAt k .size * 32)) ≡ tablesOctetsOk f (drop k tableRules) s at
   tables-turn f e = sym (next f ∙ rw e)
 
   -- where table k is not fine, none behind it can mend that
-  pub tables-fails : (f : Hardware) → tableFine (ruleAt k) f s at ≡ false → false ≡ tablesFine f (drop k tableRules) s at
+  pub tables-fails : (f : Hardware) → tableOctetsOk (ruleAt k) f s at ≡ false → false ≡ tablesOctetsOk f (drop k tableRules) s at
   tables-fails f e = sym (next f ∙ rw e)
 
 -- past the sixth table nothing is left to test
-pub tables-end : (f : Hardware) (s : Octets) (at k : ℕ) → 6 ≤ k → true ≡ tablesFine f (drop k tableRules) s at
-unfolding tablesFine
+pub tables-end : (f : Hardware) (s : Octets) (at k : ℕ) → 6 ≤ k → true ≡ tablesOctetsOk f (drop k tableRules) s at
+unfolding tablesOctetsOk
 tables-end f s at k h = let e : drop k tableRules ≡ [] = drop-of-length-le tableRules {i = k} (rw rules-six h) in sym (rw e)
 
 -- 5. Blocks -----------------------------------------------------------------------------------------------------------------------------------
 
 -- the test of a present block, from its place and its settings
 pub fine-by : (s : Octets) (i b : ℕ) (m : Settings) → b ≡ base i → m ≡ settingsOf (controllerOf s i)
-    → presentFine s i
+    → controllerOctetsOk s i
     ≡ radioOk (m .radio)
     && (settingsOk m
     && (nameOk (controllerOf s i .host .name)
-    && (flagsFine s b
-    && (openFine (m .radio) (u16 s (b + 1)) (part s (b + 1 + 2) 3)
-    && tablesFine (m .radio .hardware) tableRules s (b + 292)))))
-unfolding presentFine settingsOf
+    && (flagsOctetsOk s b
+    && (openOctetsOk (m .radio) (u16 s (b + 1)) (part s (b + 1 + 2) 3)
+    && tablesOctetsOk (m .radio .hardware) tableRules s (b + 292)))))
+unfolding controllerOctetsOk settingsOf
 fine-by s i b m e f = rw (e, f)
 
 -- the first octet of a block says whether a controller is there

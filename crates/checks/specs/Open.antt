@@ -22,7 +22,7 @@ use Rattle.model.specs.Proof.Decode.{started-by}
 use Rattle.model.specs.Proof.Tables.{bytes-take, eqb-self, same-refl}
 use Rattle.model.specs.Proof.Tests.{no-way, and-off}
 use Rattle.octets.specs.Parts.{length-part, part}
-use Rattle.rules.specs.Decisions.{decision, isWait}
+use Rattle.rules.specs.Decisions.{decision, isStarted}
 use Rattle.rules.proofs.Ties.{starts-is}
 use Rattle.checks.specs.Tests.{and-on, le16-part, one-test, part-add, same-append, same-zeros}
 use Rattle.model.specs.Proof.Room.{length-le16}
@@ -30,22 +30,22 @@ use Rattle.model.specs.Proof.Room.{length-le16}
 -- 1. The test -------------------------------------------------------------------------------------------------------------------------------
 
 -- an open command of a code other than zero, with three octets of parameters: it would be started, and those its code does not use are zero
-unfoldable pub startedFine : RadioSettings → ℕ → Octets → Bool
-startedFine x code ps = startsBy x (take (sizeOf (rule code)) ps) (rule code) && allZero (drop (sizeOf (rule code)) ps)
+unfoldable pub startedOctetsOk : RadioSettings → ℕ → Octets → Bool
+startedOctetsOk x code ps = startsBy x (take (sizeOf (rule code)) ps) (rule code) && allZero (drop (sizeOf (rule code)) ps)
 
 -- nothing is under way and all is zero, or such a command is
-unfoldable pub openFine : RadioSettings → ℕ → Octets → Bool
-openFine x code ps = elim (eqb code 0) [ true ↦ allZero ps | false ↦ startedFine x code ps ]
+unfoldable pub openOctetsOk : RadioSettings → ℕ → Octets → Bool
+openOctetsOk x code ps = elim (eqb code 0) [ true ↦ allZero ps | false ↦ startedOctetsOk x code ps ]
 
 -- with code zero, the parameters must be zero
-pub fine-none : (x : RadioSettings) (code : ℕ) (ps : Octets) → code ≡ 0 → openFine x code ps ≡ allZero ps
-unfolding openFine
-fine-none x code ps e = rw (eq-eqb code 0 e, openFine)
+pub fine-none : (x : RadioSettings) (code : ℕ) (ps : Octets) → code ≡ 0 → openOctetsOk x code ps ≡ allZero ps
+unfolding openOctetsOk
+fine-none x code ps e = rw (eq-eqb code 0 e, openOctetsOk)
 
 -- with another code, the command must be one that would be started
-pub fine-some : (x : RadioSettings) (code : ℕ) (ps : Octets) → (code ≡ 0 → ⊥) → openFine x code ps ≡ startedFine x code ps
-unfolding openFine
-fine-some x code ps n = rw (ne-eqb code 0 n, openFine)
+pub fine-some : (x : RadioSettings) (code : ℕ) (ps : Octets) → (code ≡ 0 → ⊥) → openOctetsOk x code ps ≡ startedOctetsOk x code ps
+unfolding openOctetsOk
+fine-some x code ps n = rw (ne-eqb code 0 n, openOctetsOk)
 
 -- 2. It is the model's --------------------------------------------------------------------------------------------------------------------------
 
@@ -113,8 +113,8 @@ some-is s at n ps w h le e =
 module _ (c : Controller) (s : Octets) (at : ℕ) (ps : Octets) (w : bytes s ≡ true) (b : bytes ps ≡ true) (h : at + 5 ≤ length s) (e : take 3 ps ≡ part s (at + 2) 3) where
   -- the code is not zero: it would be started, or the test fails
   started-is : (o : OpenCommand) → o ≡ record { code = u16 s at; params = take (sizeOf (rule (u16 s at))) ps }
-      → openOk (some c) (some o) && same (part s at 5) (openPart (some o)) ≡ startedFine (c .radio) (u16 s at) (part s (at + 2) 3)
-  unfolding openOk starts startedFine
+      → openOk (some c) (some o) && same (part s at 5) (openPart (some o)) ≡ startedOctetsOk (c .radio) (u16 s at) (part s (at + 2) 3)
+  unfolding openOk starts startedOctetsOk
   started-is o q = rw q (go (startsBy (c .radio) (take n ps) (rule (u16 s at))) refl)
     where
       n : ℕ
@@ -129,25 +129,25 @@ module _ (c : Controller) (s : Octets) (at : ℕ) (ps : Octets) (w : bytes s ≡
       go false f = rw (← t, f)
 
   -- what stands at the place is valid, and its octets are the one encoding of it
-  pub open-is : openOk (some c) (openWith (u16 s at) ps) && same (part s at 5) (openPart (openWith (u16 s at) ps)) ≡ openFine (c .radio) (u16 s at) (part s (at + 2) 3)
-  unfolding openWith openFine openOk
+  pub open-is : openOk (some c) (openWith (u16 s at) ps) && same (part s at 5) (openPart (openWith (u16 s at) ps)) ≡ openOctetsOk (c .radio) (u16 s at) (part s (at + 2) 3)
+  unfolding openWith openOctetsOk openOk
   open-is = go (eqb (u16 s at) 0) refl
     where
-      nothing : eqb (u16 s at) 0 ≡ true → openOk (some c) none && same (part s at 5) (openPart none) ≡ allZero (part s (at + 2) 3)
-      nothing f = none-is s at w h (eqb-true (u16 s at) 0 f)
+      noReason : eqb (u16 s at) 0 ≡ true → openOk (some c) none && same (part s at 5) (openPart none) ≡ allZero (part s (at + 2) 3)
+      noReason f = none-is s at w h (eqb-true (u16 s at) 0 f)
 
       go : (x : Bool) → eqb (u16 s at) 0 ≡ x
           → openOk (some c) (elim x [ true ↦ none | false ↦ some (record { code = u16 s at; params = take (sizeOf (rule (u16 s at))) ps }) ])
           && same (part s at 5) (openPart (elim x [ true ↦ none | false ↦ some (record { code = u16 s at; params = take (sizeOf (rule (u16 s at))) ps }) ]))
-          ≡ elim x [ true ↦ allZero (part s (at + 2) 3) | false ↦ startedFine (c .radio) (u16 s at) (part s (at + 2) 3) ]
-      go true f = nothing f
+          ≡ elim x [ true ↦ allZero (part s (at + 2) 3) | false ↦ startedOctetsOk (c .radio) (u16 s at) (part s (at + 2) 3) ]
+      go true f = noReason f
       go false f = started-is _ refl
 
 -- 3. By code ------------------------------------------------------------------------------------------------------------------------------------
 
 -- a command of this size, whose octets behind its parameters are zero
-radio-is : (x : RadioSettings) (code : ℕ) (ps : Octets) (r : RadioRule) → rule code ≡ some (radio r) → startedFine x code ps ≡ startsBy x (take (r .size) ps) (some (radio r)) && allZero (drop (r .size) ps)
-unfolding startedFine sizeOf
+radio-is : (x : RadioSettings) (code : ℕ) (ps : Octets) (r : RadioRule) → rule code ≡ some (radio r) → startedOctetsOk x code ps ≡ startsBy x (take (r .size) ps) (some (radio r)) && allZero (drop (r .size) ps)
+unfolding startedOctetsOk sizeOf
 radio-is x code ps r e = rw e
 
 module _ (x : RadioSettings) (ps : Octets) (l : length ps ≡ 3) where
@@ -156,24 +156,24 @@ module _ (x : RadioSettings) (ps : Octets) (l : length ps ≡ 3) where
   first = simp length-take (omega arith)
 
   -- Set Powered, Set Connectable and Set Low Energy have one parameter octet
-  pub fine-powered : (code : ℕ) → code ≡ 5 → startedFine x code ps ≡ isWait (decision setPowered x (take 1 ps)) && allZero (drop 1 ps)
+  pub fine-powered : (code : ℕ) → code ≡ 5 → startedOctetsOk x code ps ≡ isStarted (decision setPowered x (take 1 ps)) && allZero (drop 1 ps)
   unfolding rule find rows setPowered
   fine-powered code e = rw e (radio-is x 5 ps setPowered refl ∙ rw (starts-is setPowered x (take 1 ps) first))
 
   -- the same, of Set Connectable
-  pub fine-connectable : (code : ℕ) → code ≡ 7 → startedFine x code ps ≡ isWait (decision setConnectable x (take 1 ps)) && allZero (drop 1 ps)
+  pub fine-connectable : (code : ℕ) → code ≡ 7 → startedOctetsOk x code ps ≡ isStarted (decision setConnectable x (take 1 ps)) && allZero (drop 1 ps)
   unfolding rule find rows setConnectable
   fine-connectable code e = rw e (radio-is x 7 ps setConnectable refl ∙ rw (starts-is setConnectable x (take 1 ps) first))
 
   -- the same, of Set Low Energy
-  pub fine-low-energy : (code : ℕ) → code ≡ 13 → startedFine x code ps ≡ isWait (decision setLowEnergy x (take 1 ps)) && allZero (drop 1 ps)
+  pub fine-low-energy : (code : ℕ) → code ≡ 13 → startedOctetsOk x code ps ≡ isStarted (decision setLowEnergy x (take 1 ps)) && allZero (drop 1 ps)
   unfolding rule find rows setLowEnergy
   fine-low-energy code e = rw e (radio-is x 13 ps setLowEnergy refl ∙ rw (starts-is setLowEnergy x (take 1 ps) first))
 
   -- Set Discoverable has three
-  pub fine-discoverable : (code : ℕ) → code ≡ 6 → startedFine x code ps ≡ isWait (decision setDiscoverable x ps)
+  pub fine-discoverable : (code : ℕ) → code ≡ 6 → startedOctetsOk x code ps ≡ isStarted (decision setDiscoverable x ps)
   unfolding rule find rows setDiscoverable allZero
-  fine-discoverable code e = rw e (radio-is x 6 ps setDiscoverable refl ∙ rw (take-all 3 ps (omega arith), starts-is setDiscoverable x ps l, drop-of-length-le ps {i = 3} (omega arith)) (and-on (isWait (decision setDiscoverable x ps))))
+  fine-discoverable code e = rw e (radio-is x 6 ps setDiscoverable refl ∙ rw (take-all 3 ps (omega arith), starts-is setDiscoverable x ps l, drop-of-length-le ps {i = 3} (omega arith)) (and-on (isStarted (decision setDiscoverable x ps))))
 
 -- no other command waits
 Quiet : ℕ → List Row → Type 0
@@ -201,6 +201,6 @@ unfolding Quiet rows startsBy
 quiet code n5 n6 n7 n13 = (inr (λ x ps. refl), (inr (λ x ps. refl), (inr (λ x ps. refl), (inr (λ x ps. refl), (inl (ne-eqb 5 code (λ e. n5 (sym e))), (inl (ne-eqb 6 code (λ e. n6 (sym e))), (inl (ne-eqb 7 code (λ e. n7 (sym e))), (inr (λ x ps. refl), (inl (ne-eqb 13 code (λ e. n13 (sym e))), (inr (λ x ps. refl), (inr (λ x ps. refl), (inr (λ x ps. refl), (inr (λ x ps. refl), (inr (λ x ps. refl), (inr (λ x ps. refl), (inr (λ x ps. refl), (inr (λ x ps. refl), (inr static-acts, (inr (λ x ps. refl), (inr (λ x ps. refl), (inr (λ x ps. refl), tt)))))))))))))))))))))
 
 -- an open command of any other code is never fine
-pub fine-other : (x : RadioSettings) (ps : Octets) (code : ℕ) → (code ≡ 5 → ⊥) → (code ≡ 6 → ⊥) → (code ≡ 7 → ⊥) → (code ≡ 13 → ⊥) → startedFine x code ps ≡ false
-unfolding startedFine rule
+pub fine-other : (x : RadioSettings) (ps : Octets) (code : ℕ) → (code ≡ 5 → ⊥) → (code ≡ 6 → ⊥) → (code ≡ 7 → ⊥) → (code ≡ 13 → ⊥) → startedOctetsOk x code ps ≡ false
+unfolding startedOctetsOk rule
 fine-other x ps code n5 n6 n7 n13 = rw (quiet-found x (take (sizeOf (rule code)) ps) code rows (quiet code n5 n6 n7 n13))

@@ -29,9 +29,9 @@ use Rattle.rules.specs.Decisions.{settingsOk}
 use Rattle.rules.proofs.Ties.{timer-ok-is}
 use Rattle.checks.specs.Tests.{and-on, one-test, part-bytes, same-append, same-zeros, u16-lt}
 use Rattle.checks.specs.Blocks.{blockOk, blocksOk, state-blocks}
-use Rattle.checks.specs.Tables.{drop-part, tables-are, tablesFine, total-six}
-use Rattle.checks.specs.Open.{open-is, openFine}
-use Rattle.checks.specs.Settings.{flagsFine, hardware-same, one-octet, part-cut, settings-long, settings-same}
+use Rattle.checks.specs.Tables.{drop-part, tables-are, tablesOctetsOk, total-six}
+use Rattle.checks.specs.Open.{open-is, openOctetsOk}
+use Rattle.checks.specs.Settings.{flagsOctetsOk, hardware-same, one-octet, part-cut, settings-long, settings-same}
 
 -- the octets of block i
 abbrev pub blockAt : Octets → ℕ → Octets
@@ -112,14 +112,14 @@ gather r n t z o c f g = one-test _ _ down up
         both (both (a .0) (both (d .0) (both (k .0) (b .0)))) (both (j .0) (both (j .1) (both (h .0) (k .1))))
 
 -- the block of a present index is well formed: radio settings, settings, name, flags, open command, tables
-unfoldable pub presentFine : Octets → ℕ → Bool
-presentFine s i =
+unfoldable pub controllerOctetsOk : Octets → ℕ → Bool
+controllerOctetsOk s i =
     radioOk (controllerOf s i .radio)
     && (settingsOk (settingsOf (controllerOf s i))
     && (nameOk (controllerOf s i .host .name)
-    && (flagsFine s (base i)
-    && (openFine (controllerOf s i .radio) (u16 s (base i + 1)) (part s (base i + 1 + 2) 3)
-    && tablesFine (controllerOf s i .radio .hardware) tableRules s (base i + 292)))))
+    && (flagsOctetsOk s (base i)
+    && (openOctetsOk (controllerOf s i .radio) (u16 s (base i + 1)) (part s (base i + 1 + 2) 3)
+    && tablesOctetsOk (controllerOf s i .radio .hardware) tableRules s (base i + 292)))))
 
 -- the name lies 32 octets into a block
 pub place-name : (i : ℕ) → placeOf i 4 ≡ base i + 32
@@ -138,7 +138,7 @@ module _ (s : Octets) (i : ℕ) (w : bytes s ≡ true) (h : base i + 4028 ≤ le
 
   -- they are well formed, and their octets the one encoding of them
   tables-fine : tablesOk (controllerOf s i .radio .hardware) tableRules (controllerOf s i .host .tables) && same (part s (base i + 292) 3736) (regions tableRules (controllerOf s i .host .tables))
-      ≡ tablesFine (controllerOf s i .radio .hardware) tableRules s (base i + 292)
+      ≡ tablesOctetsOk (controllerOf s i .radio .hardware) tableRules s (base i + 292)
   tables-fine = rw tables-here (rw total-six at (tables-are (controllerOf s i .radio .hardware) tableRules s (base i + 292) w (rw total-six (omega arith))))
 
   -- what lies there is the controller's name
@@ -180,7 +180,7 @@ module _ (s : Octets) (i : ℕ) (w : bytes s ≡ true) (h : base i + 4028 ≤ le
   -- the octets of a present block are those of a controller and an open command, part by part
   block-same : (o : Option OpenCommand) → getD s (base i) 0 ≡ 1
       → same (blockAt s i) (block (some (controllerOf s i)) o)
-      ≡ same (part s (base i + 1) 5) (openPart o) && (flagsFine s (base i) && same (part s (base i + 292) 3736) (regions tableRules (controllerOf s i .host .tables)))
+      ≡ same (part s (base i + 1) 5) (openPart o) && (flagsOctetsOk s (base i) && same (part s (base i + 292) 3736) (regions tableRules (controllerOf s i .host .tables)))
   unfolding block controllerPart
   block-same o e =
       let b : ℕ = base i in
@@ -188,7 +188,7 @@ module _ (s : Octets) (i : ℕ) (w : bytes s ≡ true) (h : base i + 4028 ≤ le
       let n : Octets = c .host .name in
       let f : Octets = hardwarePart (c .radio .hardware) in
       let hw : part s (b + 6) 13 ≡ f = hardware-same s b w (omega arith) ∙ ap hardwarePart (hardware-at s i) in
-      let st : same (part s (b + 19) 13) (settingsPart (settingsOf c)) ≡ flagsFine s b = ap (λ (m : Settings). same (part s (b + 19) 13) (settingsPart m)) (sym (settings-at s i)) ∙ settings-same s b (c .radio .hardware) w (omega arith) in
+      let st : same (part s (b + 19) 13) (settingsPart (settingsOf c)) ≡ flagsOctetsOk s b = ap (λ (m : Settings). same (part s (b + 19) 13) (settingsPart m)) (sym (settings-at s i)) ∙ settings-same s b (c .radio .hardware) w (omega arith) in
       let sl : length (settingsPart (settingsOf c)) ≡ 13 = ap (λ (m : Settings). length (settingsPart m)) (sym (settings-at s i)) ∙ settings-long s b (c .radio .hardware) (omega arith) in
       rw (cut-block s b (omega arith) e)
       (pieces-same (part s (b + 1) 5) (part s (b + 6) 13) (part s (b + 19) 13) (part s (b + 32) 260) (part s (b + 292) 3736) (openPart o) f (settingsPart (settingsOf c)) n (regions tableRules (c .host .tables))
@@ -213,18 +213,18 @@ module _ (s : Octets) (i : ℕ) (w : bytes s ≡ true) (h : base i + 4028 ≤ le
 
   -- and it would be started, or all is zero
   open-fine : (c : Controller) → openOk (some c) (openWith (u16 s (base i + 1)) (part s (base i + 1 + 2) 4025)) && same (part s (base i + 1) 5) (openPart (openWith (u16 s (base i + 1)) (part s (base i + 1 + 2) 4025)))
-      ≡ openFine (c .radio) (u16 s (base i + 1)) (part s (base i + 1 + 2) 3)
+      ≡ openOctetsOk (c .radio) (u16 s (base i + 1)) (part s (base i + 1 + 2) 3)
   open-fine c = open-is c s (base i + 1) (part s (base i + 1 + 2) 4025) w (part-bytes s (base i + 1 + 2) 4025 w) (omega arith) (take-three s (base i + 1 + 2))
 
   -- the test of a present block
-  pub present-block : getD s (base i) 0 ≡ 1 → presentFine s i ≡ blockOk (blockAt s i)
-  unfolding blockOk slotOk presentFine
+  pub present-block : getD s (base i) 0 ≡ 1 → controllerOctetsOk s i ≡ blockOk (blockAt s i)
+  unfolding blockOk slotOk controllerOctetsOk
   present-block e =
       let c : Controller = controllerOf s i in
       let o : Option OpenCommand = openWith (u16 s (base i + 1)) (part s (base i + 1 + 2) 4025) in
       sym (rw (controller-here e, open-here e, controller-is, block-same o e)
       (gather (radioOk (c .radio)) (nameOk (c .host .name)) (tablesOk (c .radio .hardware) tableRules (c .host .tables)) (settingsOk (settingsOf c))
-      (openOk (some c) o) (same (part s (base i + 1) 5) (openPart o)) (flagsFine s (base i)) (same (part s (base i + 292) 3736) (regions tableRules (c .host .tables)))
+      (openOk (some c) o) (same (part s (base i + 1) 5) (openPart o)) (flagsOctetsOk s (base i)) (same (part s (base i + 292) 3736) (regions tableRules (c .host .tables)))
       ∙ rw (open-fine c, tables-fine)))
 
 -- 4. The whole state -----------------------------------------------------------------------------------------------------------------------------

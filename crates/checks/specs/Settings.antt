@@ -61,8 +61,8 @@ hardware-same s b w h =
 -- 2. The settings -----------------------------------------------------------------------------------------------------------------------------
 
 -- each of the five flags of the block that begins at b is 0 or 1
-unfoldable pub flagsFine : Octets → ℕ → Bool
-flagsFine s b = leb (getD s (b + 19) 0) 1 && (leb (getD s (b + 20) 0) 1 && (leb (getD s (b + 21) 0) 1 && (leb (getD s (b + 22) 0) 1 && leb (getD s (b + 23) 0) 1)))
+unfoldable pub flagsOctetsOk : Octets → ℕ → Bool
+flagsOctetsOk s b = leb (getD s (b + 19) 0) 1 && (leb (getD s (b + 20) 0) 1 && (leb (getD s (b + 21) 0) 1 && (leb (getD s (b + 22) 0) 1 && leb (getD s (b + 23) 0) 1)))
 
 -- an octet is that of the flag it means if it is 0 or 1
 flag-same : (x : ℕ) → eqb x (flag (eqb x 1) 1) ≡ leb x 1
@@ -90,8 +90,8 @@ unfolding settingsPart settingsFrom le16
 settings-long s b f h = omega (arith, length-part s (b + 26) 6 (omega arith))
 
 -- those thirteen octets are the one encoding of what they mean if the flags are 0 or 1
-pub settings-same : (s : Octets) (b : ℕ) (f : Hardware) → bytes s ≡ true → b + 32 ≤ length s → same (part s (b + 19) 13) (settingsPart (settingsFrom s b f)) ≡ flagsFine s b
-unfolding settingsPart settingsFrom flagsFine
+pub settings-same : (s : Octets) (b : ℕ) (f : Hardware) → bytes s ≡ true → b + 32 ≤ length s → same (part s (b + 19) 13) (settingsPart (settingsFrom s b f)) ≡ flagsOctetsOk s b
+unfolding settingsPart settingsFrom flagsOctetsOk
 settings-same s b f w h =
     let o : ℕ → ℕ = λ k. getD s k 0 in
     let fs : Octets = flag (eqb (o (b + 19)) 1) 1 ∷ flag (eqb (o (b + 20)) 1) 1 ∷ flag (eqb (o (b + 21)) 1) 1 ∷ flag (eqb (o (b + 22)) 1) 1 ∷ flag (eqb (o (b + 23)) 1) 1 ∷ [] in

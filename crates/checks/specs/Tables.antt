@@ -27,8 +27,8 @@ use Rattle.layout.proofs.Tables.{behind-word}
 -- 1. One table ------------------------------------------------------------------------------------------------------------------------------
 
 -- the table that lies at a place is well formed, and its octets are the one encoding of it
-unfoldable pub tableFine : TableRule → Hardware → Octets → ℕ → Bool
-tableFine u f s at =
+unfoldable pub tableOctetsOk : TableRule → Hardware → Octets → ℕ → Bool
+tableOctetsOk u f s at =
     recordsOk u (entries (tableAt s at (u .size)))
     && (supportOk u f (entries (tableAt s at (u .size)))
     && freeZero s (u .size) (at + 4) 32 (u32 s at))
@@ -60,9 +60,9 @@ table-is u f s at w = rw (length-table s at (u .size), table-bytes s at (u .size
 -- 2. The tables behind-word one another ------------------------------------------------------------------------------------------------------------
 
 -- each table of the list is fine, from where the one before it ends
-unfoldable pub tablesFine : Hardware → List TableRule → Octets → ℕ → Bool
-tablesFine f [] s at = true
-tablesFine f (u ∷ us) s at = tableFine u f s at && tablesFine f us s (at + (4 + u .size * 32))
+unfoldable pub tablesOctetsOk : Hardware → List TableRule → Octets → ℕ → Bool
+tablesOctetsOk f [] s at = true
+tablesOctetsOk f (u ∷ us) s at = tableOctetsOk u f s at && tablesOctetsOk f us s (at + (4 + u .size * 32))
 
 -- how many octets they take
 unfoldable pub total : List TableRule → ℕ
@@ -114,14 +114,14 @@ no-octets s at = refl
 
 -- records, support and free slots are the test of one table
 fine-is : (u : TableRule) (f : Hardware) (s : Octets) (at : ℕ)
-    → (recordsOk u (entries (tableAt s at (u .size))) && supportOk u f (entries (tableAt s at (u .size)))) && freeZero s (u .size) (at + 4) 32 (u32 s at) ≡ tableFine u f s at
-unfolding tableFine
+    → (recordsOk u (entries (tableAt s at (u .size))) && supportOk u f (entries (tableAt s at (u .size)))) && freeZero s (u .size) (at + 4) 32 (u32 s at) ≡ tableOctetsOk u f s at
+unfolding tableOctetsOk
 fine-is u f s at = assoc (recordsOk u (entries (tableAt s at (u .size)))) (supportOk u f (entries (tableAt s at (u .size)))) (freeZero s (u .size) (at + 4) 32 (u32 s at))
 
 -- all are well formed, and their octets are the one encoding of them
 pub tables-are : (f : Hardware) (us : List TableRule) (s : Octets) (at : ℕ) → bytes s ≡ true → at + total us ≤ length s
-    → tablesOk f us (tablesBack us (part s at (total us))) && same (part s at (total us)) (regions us (tablesBack us (part s at (total us)))) ≡ tablesFine f us s at
-unfolding tablesOk tablesBack regions tablesFine total
+    → tablesOk f us (tablesBack us (part s at (total us))) && same (part s at (total us)) (regions us (tablesBack us (part s at (total us)))) ≡ tablesOctetsOk f us s at
+unfolding tablesOk tablesBack regions tablesOctetsOk total
 tables-are f [] s at w h = no-octets s at
 tables-are f (u ∷ us) s at w h =
     let n : ℕ = 4 + u .size * 32 in
@@ -134,4 +134,4 @@ tables-are f (u ∷ us) s at w h =
     rw (part-add s at n (total us)) (same-append (part s at n) r (region (u .size) t) (regions us (tablesBack us r)) (l ∙ sym z) ∙ rw (region-same s at (u .size) w (omega arith))) in
     rw (table-in s at (u .size) (total us), d, g, table-is u f s at w)
     (swap (recordsOk u (entries t) && supportOk u f (entries t)) (tablesOk f us (tablesBack us r)) (freeZero s (u .size) (at + 4) 32 (u32 s at)) (same r (regions us (tablesBack us r)))
-    ∙ rw (tables-are f us s (at + n) w (omega arith)) (ap (λ (b : Bool). b && tablesFine f us s (at + n)) (fine-is u f s at)))
+    ∙ rw (tables-are f us s (at + n) w (omega arith)) (ap (λ (b : Bool). b && tablesOctetsOk f us s (at + n)) (fine-is u f s at)))

@@ -10,13 +10,13 @@ ghost use Rattle.model.specs.Meanings.{stateOk};
 ghost use Rattle.model.specs.Tables.{ruleAt};
 ghost use Rattle.octets.specs.Parts.{part};
 ghost use Rattle.layout.specs.Places.{base, controllerOf};
-ghost use Rattle.rules.specs.Decisions.{isWait};
+ghost use Rattle.rules.specs.Decisions.{isStarted};
 ghost use Rattle.checks.specs.Blocks.{blockOk};
-ghost use Rattle.checks.specs.Open.{openFine};
-ghost use Rattle.checks.specs.Present.{blockAt, presentFine};
-ghost use Rattle.checks.specs.Settings.{flagsFine};
+ghost use Rattle.checks.specs.Open.{openOctetsOk};
+ghost use Rattle.checks.specs.Present.{blockAt, controllerOctetsOk};
+ghost use Rattle.checks.specs.Settings.{flagsOctetsOk};
 ghost use Rattle.checks.specs.Slots.{freeZero};
-ghost use Rattle.checks.specs.Tables.{tableFine, tablesFine};
+ghost use Rattle.checks.specs.Tables.{tableOctetsOk, tablesOctetsOk};
 use model::RadioSettings;
 use rules::Decision;
 
@@ -63,7 +63,7 @@ fn free_zero(s: &[u8], size: usize, place: usize, n: usize, w: u64) -> bool
 // Whether the table k that lies at a place is well formed and its free slots are zero, of a controller with these supported settings.
 fn table_ok(s: &[u8], at: usize, k: usize, supported: u32) -> bool
     requires { ⌜ (k < 6) × (at + (4 + ruleAt k .size * 32) ≤ length (now s)) ⌝ }
-    ensures { λ r. ⌜ ((f : Hardware) → f .supported ≡ supported → r ≡ tableFine (ruleAt k) f (now (s .entry)) at) ⌝ }
+    ensures { λ r. ⌜ ((f : Hardware) → f .supported ≡ supported → r ≡ tableOctetsOk (ruleAt k) f (now (s .entry)) at) ⌝ }
 {
     let size = records::size_of(k);
     let w = octets::u32_at(s, at);
@@ -81,7 +81,7 @@ fn table_ok(s: &[u8], at: usize, k: usize, supported: u32) -> bool
 // Whether the six tables that lie from a place on are so.
 fn tables_ok(s: &[u8], place: usize, supported: u32) -> bool
     requires { ⌜ place + 3736 ≤ length (now s) ⌝ }
-    ensures { λ r. ⌜ ((f : Hardware) → f .supported ≡ supported → r ≡ tablesFine f tableRules (now (s .entry)) place) ⌝ }
+    ensures { λ r. ⌜ ((f : Hardware) → f .supported ≡ supported → r ≡ tablesOctetsOk f tableRules (now (s .entry)) place) ⌝ }
 {
     let mut at = place;
     let mut k: usize = 0;
@@ -99,7 +99,7 @@ fn tables_ok(s: &[u8], place: usize, supported: u32) -> bool
 
 // Whether a decision is to wait for the radio.
 fn waits(d: Decision) -> bool
-    ensures { λ r. ⌜ r ≡ isWait d ⌝ }
+    ensures { λ r. ⌜ r ≡ isStarted d ⌝ }
 {
     match d {
         Decision::Refuse(_) => false,
@@ -112,7 +112,7 @@ fn waits(d: Decision) -> bool
 // Whether nothing is under way and all is zero, or a command that would be started on these radio settings, with zeros behind its parameters.
 fn open_ok(s: &[u8], at: usize, r: RadioSettings) -> bool
     requires { ⌜ at + 5 ≤ length (now s) ⌝ }
-    ensures { λ q. ⌜ q ≡ openFine r (u16 (now (s .entry)) at) (part (now (s .entry)) (at + 2) 3) ⌝ }
+    ensures { λ q. ⌜ q ≡ openOctetsOk r (u16 (now (s .entry)) at) (part (now (s .entry)) (at + 2) 3) ⌝ }
 {
     let code = octets::u16_at(s, at);
     if code == 0 {
@@ -148,7 +148,7 @@ fn block_place(i: u64) -> usize
 // Whether each of the five flags of the block that begins at b is 0 or 1.
 fn flags_ok(s: &[u8], b: usize) -> bool
     requires { ⌜ b + 32 ≤ length (now s) ⌝ }
-    ensures { λ r. ⌜ r ≡ flagsFine (now (s .entry)) b ⌝ }
+    ensures { λ r. ⌜ r ≡ flagsOctetsOk (now (s .entry)) b ⌝ }
 {
     if s[b + 19] <= 1 {
         if s[b + 20] <= 1 {
@@ -177,7 +177,7 @@ fn name_ok(s: &[u8], i: u64) -> bool
 // Whether the block of index i, which has a controller, is well formed.
 fn controller_ok(s: &[u8], i: u64) -> bool
     requires { ⌜ (length (now s) ≡ 16116) × (i < 4) ⌝ }
-    ensures { λ r. ⌜ r ≡ presentFine (now (s .entry)) i ⌝ }
+    ensures { λ r. ⌜ r ≡ controllerOctetsOk (now (s .entry)) i ⌝ }
 {
     let b = block_place(i);
     let m = layout::settings_at(s, i);

@@ -7,9 +7,10 @@ use mathlib.Core.Bool.{_&&_, not}
 use mathlib.Core.List.{List}
 use lib.ListN.{take}
 use lib.Dec.{eqb, ltb}
+use Rattle.model.specs.Events as Events
 use Rattle.model.specs.Octets.{Octets, octet, allZero, event, commandComplete}
 use Rattle.model.specs.State.{Table}
-use Rattle.model.specs.Reasons.{Check, _⇒_, addressTypeAbove2, addressZeroNotBredr}
+use Rattle.model.specs.Reasons.{Check, refusedIf, addressTypeAbove2, addressZeroNotBredr}
 use Rattle.model.specs.Tables.{begins, entries, holds, free}
 use Rattle.table.specs.Slots.{firstAt, joinedByOr}
 
@@ -31,7 +32,7 @@ classWith hints = 0 ∷ 0 ∷ hints ∷ []
 
 -- Class Of Device Changed, if the hints changed (01, Commands, paragraph on events)
 unfoldable pub changedClass : ℕ → ℕ → ℕ → Octets
-changedClass index old new = elim (eqb old new) [ true ↦ [] | false ↦ event 0x0007 index (classWith new) ]
+changedClass index old new = elim (eqb old new) [ true ↦ [] | false ↦ event Events.classChanged index (classWith new) ]
 
 -- what Add UUID and Remove UUID write when they act: a reply with the class (01, Commands, 0x0010), then the event (paragraph on events)
 unfoldable pub classReply : ℕ → ℕ → ℕ → ℕ → Octets
@@ -39,4 +40,4 @@ classReply index code old new = commandComplete index code 0 (classWith new) ++ 
 
 -- the values of Remove Device: one of three types, and a zero address, which stands for all, only as a BR/EDR address (01, Commands, 0x0034)
 unfoldable pub removalChecks : Octets → List Check
-removalChecks ps = (ltb 2 (octet ps 6) ⇒ addressTypeAbove2) ∷ (allZero (take 6 ps) && not (eqb (octet ps 6) 0) ⇒ addressZeroNotBredr) ∷ []
+removalChecks ps = (refusedIf (ltb 2 (octet ps 6)) addressTypeAbove2) ∷ (refusedIf (allZero (take 6 ps) && not (eqb (octet ps 6) 0)) addressZeroNotBredr) ∷ []

@@ -3,81 +3,84 @@ ghost use mathlib.Core.Path.{_≡_};
 ghost use mathlib.Core.Bool.{true};
 ghost use Prim.Native.Nat.{_≤_};
 ghost use lib.ListN.{length};
+ghost use Rattle.model.specs.Lengths as Lengths;
 ghost use Rattle.model.specs.Meanings.{stateOk};
 ghost use Rattle.layout.specs.Places.{Ready};
 ghost use Rattle.replies.specs.Answers.{Gives};
-ghost use Rattle.outcomes.specs.Outcomes.{dispatched};
-ghost use Rattle.dispatch.specs.Codes.{member, settingsCodes, keyCodes, deviceCodes, informationCodes, controllerCodes};
+ghost use Rattle.outcomes.specs.Outcomes.{anyCommand};
+ghost use Rattle.dispatch.specs.Groups.{member, settingsCodes, keyCodes, deviceCodes, informationCodes, controllerCodes};
 use model::Answer;
+use model::codes;
+use model::statuses;
 
 // Whether a code is that of a settings command.
 fn is_settings(code: u64) -> bool
     ensures { λ r. ⌜ r ≡ member code settingsCodes ⌝ }
 {
-    if code == 0x05 {
+    if code == codes::SET_POWERED {
         return true;
     }
-    if code == 0x06 {
+    if code == codes::SET_DISCOVERABLE {
         return true;
     }
-    if code == 0x07 {
+    if code == codes::SET_CONNECTABLE {
         return true;
     }
-    if code == 0x09 {
+    if code == codes::SET_BONDABLE {
         return true;
     }
-    if code == 0x0D {
+    if code == codes::SET_LOW_ENERGY {
         return true;
     }
-    code == 0x2B
+    code == codes::SET_STATIC_ADDRESS
 }
 
 // Whether a code is that of a key list or Unpair Device.
 fn is_keys(code: u64) -> bool
     ensures { λ r. ⌜ r ≡ member code keyCodes ⌝ }
 {
-    if code == 0x12 {
+    if code == codes::LOAD_LINK_KEYS {
         return true;
     }
-    if code == 0x13 {
+    if code == codes::LOAD_LONG_TERM_KEYS {
         return true;
     }
-    if code == 0x30 {
+    if code == codes::LOAD_IDENTITY_KEYS {
         return true;
     }
-    code == 0x1B
+    code == codes::UNPAIR_DEVICE
 }
 
 // Whether a code is that of a command on UUIDs, blocked devices or devices.
 fn is_devices(code: u64) -> bool
     ensures { λ r. ⌜ r ≡ member code deviceCodes ⌝ }
 {
-    if code == 0x10 {
+    if code == codes::ADD_UUID {
         return true;
     }
-    if code == 0x11 {
+    if code == codes::REMOVE_UUID {
         return true;
     }
-    if code == 0x26 {
+    if code == codes::BLOCK_DEVICE {
         return true;
     }
-    if code == 0x27 {
+    if code == codes::UNBLOCK_DEVICE {
         return true;
     }
-    if code == 0x33 {
+    if code == codes::ADD_DEVICE {
         return true;
     }
-    code == 0x34
+    code == codes::REMOVE_DEVICE
 }
 
 // Whether a code is that of Read Controller Information or Set Local Name.
 fn is_information(code: u64) -> bool
     ensures { λ r. ⌜ r ≡ member code informationCodes ⌝ }
 {
-    if code == 0x04 {
+    if code == codes::READ_INFORMATION {
         return true;
     }
-    code == 0x0F
+    code == codes::SET_LOCAL_NAME
 }
 
 // Whether a code is that of a command to a controller.
@@ -98,22 +101,22 @@ fn to_controller(code: u64) -> bool
 
 // A settings command to a present controller.
 fn settings_command(state: &mut [u8], index: u64, code: u64, ps: &[u8], reply: &mut [u8]) -> Answer
-    requires { ⌜ Ready (now state) index × (1024 ≤ length (now reply)) × (member code settingsCodes ≡ true) ⌝ }
-    ensures { λ r. ⌜ Gives (dispatched (now (state .entry)) index code (now (ps .entry))) r (now (reply .entry)) (now (reply .exit)) (now (state .exit)) ⌝ }
+    requires { ⌜ Ready (now state) index × (Lengths.replyBuffer ≤ length (now reply)) × (member code settingsCodes ≡ true) ⌝ }
+    ensures { λ r. ⌜ Gives (anyCommand (now (state .entry)) index code (now (ps .entry))) r (now (reply .entry)) (now (reply .exit)) (now (state .exit)) ⌝ }
 {
-    if code == 0x05 {
+    if code == codes::SET_POWERED {
         return settings::set_powered(state, index, ps, reply);
     }
-    if code == 0x06 {
+    if code == codes::SET_DISCOVERABLE {
         return settings::set_discoverable(state, index, ps, reply);
     }
-    if code == 0x07 {
+    if code == codes::SET_CONNECTABLE {
         return settings::set_connectable(state, index, ps, reply);
     }
-    if code == 0x09 {
+    if code == codes::SET_BONDABLE {
         return settings::set_bondable(state, index, ps, reply);
     }
-    if code == 0x0D {
+    if code == codes::SET_LOW_ENERGY {
         return settings::set_low_energy(state, index, ps, reply);
     }
     settings::set_static_address(state, index, ps, reply)
@@ -127,10 +130,10 @@ fn information_command(
     ps: &[u8],
     reply: &mut [u8],
 ) -> Answer
-    requires { ⌜ Ready (now state) index × (1024 ≤ length (now reply)) × (member code informationCodes ≡ true) ⌝ }
-    ensures { λ r. ⌜ Gives (dispatched (now (state .entry)) index code (now (ps .entry))) r (now (reply .entry)) (now (reply .exit)) (now (state .exit)) ⌝ }
+    requires { ⌜ Ready (now state) index × (Lengths.replyBuffer ≤ length (now reply)) × (member code informationCodes ≡ true) ⌝ }
+    ensures { λ r. ⌜ Gives (anyCommand (now (state .entry)) index code (now (ps .entry))) r (now (reply .entry)) (now (reply .exit)) (now (state .exit)) ⌝ }
 {
-    if code == 0x04 {
+    if code == codes::READ_INFORMATION {
         return information::read_information(state, index, ps, reply);
     }
     information::set_local_name(state, index, ps, reply)
@@ -138,16 +141,16 @@ fn information_command(
 
 // A key list or Unpair Device to a present controller.
 fn keys_command(state: &mut [u8], index: u64, code: u64, ps: &[u8], reply: &mut [u8]) -> Answer
-    requires { ⌜ Ready (now state) index × (1024 ≤ length (now reply)) × (member code keyCodes ≡ true) ⌝ }
-    ensures { λ r. ⌜ Gives (dispatched (now (state .entry)) index code (now (ps .entry))) r (now (reply .entry)) (now (reply .exit)) (now (state .exit)) ⌝ }
+    requires { ⌜ Ready (now state) index × (Lengths.replyBuffer ≤ length (now reply)) × (member code keyCodes ≡ true) ⌝ }
+    ensures { λ r. ⌜ Gives (anyCommand (now (state .entry)) index code (now (ps .entry))) r (now (reply .entry)) (now (reply .exit)) (now (state .exit)) ⌝ }
 {
-    if code == 0x12 {
+    if code == codes::LOAD_LINK_KEYS {
         return keys::load_link_keys(state, index, ps, reply);
     }
-    if code == 0x13 {
+    if code == codes::LOAD_LONG_TERM_KEYS {
         return keys::load_long_term_keys(state, index, ps, reply);
     }
-    if code == 0x30 {
+    if code == codes::LOAD_IDENTITY_KEYS {
         return keys::load_identity_keys(state, index, ps, reply);
     }
     keys::unpair_device(state, index, ps, reply)
@@ -155,22 +158,22 @@ fn keys_command(state: &mut [u8], index: u64, code: u64, ps: &[u8], reply: &mut 
 
 // A command on UUIDs, blocked devices or devices to a present controller.
 fn devices_command(state: &mut [u8], index: u64, code: u64, ps: &[u8], reply: &mut [u8]) -> Answer
-    requires { ⌜ Ready (now state) index × (1024 ≤ length (now reply)) × (member code deviceCodes ≡ true) ⌝ }
-    ensures { λ r. ⌜ Gives (dispatched (now (state .entry)) index code (now (ps .entry))) r (now (reply .entry)) (now (reply .exit)) (now (state .exit)) ⌝ }
+    requires { ⌜ Ready (now state) index × (Lengths.replyBuffer ≤ length (now reply)) × (member code deviceCodes ≡ true) ⌝ }
+    ensures { λ r. ⌜ Gives (anyCommand (now (state .entry)) index code (now (ps .entry))) r (now (reply .entry)) (now (reply .exit)) (now (state .exit)) ⌝ }
 {
-    if code == 0x10 {
+    if code == codes::ADD_UUID {
         return devices::add_uuid(state, index, ps, reply);
     }
-    if code == 0x11 {
+    if code == codes::REMOVE_UUID {
         return devices::remove_uuid(state, index, ps, reply);
     }
-    if code == 0x26 {
+    if code == codes::BLOCK_DEVICE {
         return devices::block_device(state, index, ps, reply);
     }
-    if code == 0x27 {
+    if code == codes::UNBLOCK_DEVICE {
         return devices::unblock_device(state, index, ps, reply);
     }
-    if code == 0x33 {
+    if code == codes::ADD_DEVICE {
         return devices::add_device(state, index, ps, reply);
     }
     devices::remove_device(state, index, ps, reply)
@@ -184,8 +187,8 @@ fn controller_command(
     ps: &[u8],
     reply: &mut [u8],
 ) -> Answer
-    requires { ⌜ Ready (now state) index × (1024 ≤ length (now reply)) × (member code controllerCodes ≡ true) ⌝ }
-    ensures { λ r. ⌜ Gives (dispatched (now (state .entry)) index code (now (ps .entry))) r (now (reply .entry)) (now (reply .exit)) (now (state .exit)) ⌝ }
+    requires { ⌜ Ready (now state) index × (Lengths.replyBuffer ≤ length (now reply)) × (member code controllerCodes ≡ true) ⌝ }
+    ensures { λ r. ⌜ Gives (anyCommand (now (state .entry)) index code (now (ps .entry))) r (now (reply .entry)) (now (reply .exit)) (now (state .exit)) ⌝ }
 {
     if is_settings(code) {
         return settings_command(state, index, code, ps, reply);
@@ -201,23 +204,23 @@ fn controller_command(
 
 // A command by its parts, on a well-formed state and with room for a reply.
 pub fn dispatch(state: &mut [u8], index: u64, code: u64, ps: &[u8], reply: &mut [u8]) -> Answer
-    requires { ⌜ (stateOk (now state) ≡ true) × (length (now state) ≡ 16116) × (1024 ≤ length (now reply)) ⌝ }
-    ensures { λ r. ⌜ Gives (dispatched (now (state .entry)) index code (now (ps .entry))) r (now (reply .entry)) (now (reply .exit)) (now (state .exit)) ⌝ }
+    requires { ⌜ (stateOk (now state) ≡ true) × (length (now state) ≡ Lengths.state) × (Lengths.replyBuffer ≤ length (now reply)) ⌝ }
+    ensures { λ r. ⌜ Gives (anyCommand (now (state .entry)) index code (now (ps .entry))) r (now (reply .entry)) (now (reply .exit)) (now (state .exit)) ⌝ }
 {
-    if code == 0x01 {
+    if code == codes::READ_VERSION {
         return information::read_version(state, index, ps, reply);
     }
-    if code == 0x02 {
+    if code == codes::READ_COMMANDS {
         return information::read_commands(state, index, ps, reply);
     }
-    if code == 0x03 {
+    if code == codes::READ_INDEXES {
         return information::read_indexes(state, index, ps, reply);
     }
     if to_controller(code) {
         if layout::present(state, index) {
             return controller_command(state, index, code, ps, reply);
         }
-        return replies::refuse(reply, index, code, 0x11);
+        return replies::refuse(reply, index, code, statuses::INVALID_INDEX);
     }
-    replies::refuse(reply, index, code, 0x01)
+    replies::refuse(reply, index, code, statuses::UNKNOWN_COMMAND)
 }

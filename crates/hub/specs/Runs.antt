@@ -8,7 +8,7 @@ use lib.ListN.{length, take}
 use Rattle.model.specs.declared.Hardware.{Hardware}
 use Rattle.model.specs.Octets.{Octets, bytes}
 use Rattle.model.specs.Hub.{Call}
-use Rattle.model.specs.Hub as Calls
+use Rattle.model.specs.Hub as Hub
 use Rattle.model.specs.WellFormed.{hardwareWide}
 use Rattle.model.specs.Layout.{cleared}
 use Rattle.model.specs.Meanings.{hubClock, hubCommand, hubLoad, hubName, hubPlug, hubReport, hubSave, hubUnplug, plainMeaning}
@@ -46,21 +46,21 @@ entryOf x = entry (x .call) (answerIn (x .returned)) (octetsIn (x .returned) (x 
 pub data Step (s : Octets) : Call → ℕ → Octets → Octets → Type 0 where
   -- hub_command
   command : {packet before after left : Octets} {r : ℕ} → bytes packet ≡ true → Returns (hubCommand s packet (length before)) r before after left
-      → Step s (Calls.command (length before) packet) r after left
+      → Step s (Hub.command (length before) packet) r after left
   -- hub_report
   report : {index status r : ℕ} {before after left : Octets} → Returns (hubReport s index status (length before)) r before after left
-      → Step s (Calls.report (length before) index status) r after left
+      → Step s (Hub.report (length before) index status) r after left
   -- hub_clock
   clock : {reading r : ℕ} {before after left : Octets} → reading < 2 ^ 32 → Returns (hubClock s reading (length before)) r before after left
-      → Step s (Calls.clock (length before) reading) r after left
+      → Step s (Hub.clock (length before) reading) r after left
   -- hub_plug
   plug : {index r : ℕ} {hardware : Hardware} {before after left : Octets} → hardwareWide hardware ≡ true
-      → Returns (hubPlug s index hardware (length before)) r before after left → Step s (Calls.plug (length before) index hardware) r after left
+      → Returns (hubPlug s index hardware (length before)) r before after left → Step s (Hub.plug (length before) index hardware) r after left
   -- hub_unplug
   unplug : {index r : ℕ} {before after left : Octets} → Returns (hubUnplug s index (length before)) r before after left
-      → Step s (Calls.unplug (length before) index) r after left
+      → Step s (Hub.unplug (length before) index) r after left
   -- hub_save, which only reads the state
-  save : {r : ℕ} {before after : Octets} → Returns (hubSave s (length before)) r before after s → Step s (Calls.save (length before)) r after s
+  save : {r : ℕ} {before after : Octets} → Returns (hubSave s (length before)) r before after s → Step s (Hub.save (length before)) r after s
 
 -- calls one after the other, each lent the state that the call before it left; names may be read in between
 pub data Run : Octets → List Seen → Octets → Type 0 where

@@ -2,16 +2,18 @@
 ghost use mathlib.Core.Path.{_≡_};
 ghost use Prim.Native.Nat.{_≤_};
 ghost use lib.ListN.{length};
-ghost use Rattle.model.specs.Hub as M;
+ghost use Rattle.model.specs.Lengths as Lengths;
+ghost use Rattle.model.specs.Hub as Hub;
 ghost use Rattle.model.specs.Meanings.{meaning, hubCommand, hubReport, hubClock, hubPlug, hubUnplug, hubSave, hubLoad, hubName};
 ghost use Rattle.model.specs.Answers.{countOf};
 ghost use Rattle.replies.specs.Answers.{Gives};
 ghost use Rattle.hub.specs.Entries.{packed, Returns};
 use model::Answer;
+use model::lengths;
 
 // Whether a packet has a header, and as many octets behind it as the header says.
-fn framed(packet: &[u8]) -> bool
-    ensures { λ r. ⌜ r ≡ M.packetOk (now (packet .entry)) ⌝ }
+fn packet_ok(packet: &[u8]) -> bool
+    ensures { λ r. ⌜ r ≡ Hub.packetOk (now (packet .entry)) ⌝ }
 {
     if 6 <= packet.len() {
         return octets::u16_at(packet, 4) == (packet.len() - 6) as u64;
@@ -21,7 +23,7 @@ fn framed(packet: &[u8]) -> bool
 
 // An answer and its count in one number.
 fn pack(a: Answer) -> u64
-    requires { ⌜ countOf a ≤ 16014 ⌝ }
+    requires { ⌜ countOf a ≤ Lengths.largestImage ⌝ }
     ensures { λ r. ⌜ r ≡ packed a ⌝ }
 {
     let n = replies::count(a) as u64;
@@ -30,11 +32,14 @@ fn pack(a: Answer) -> u64
 
 // A command packet: state, room, frame, then the function that serves its code.
 fn command(state: &mut [u8], packet: &[u8], reply: &mut [u8]) -> Answer
-    ensures { λ r. ⌜ Gives (meaning (now (state .entry)) (M.command (length (now (reply .entry))) (now (packet .entry)))) r (now (reply .entry)) (now (reply .exit)) (now (state .exit)) ⌝ }
+    ensures { λ r. ⌜
+        Gives (meaning (now (state .entry)) (Hub.command (length (now (reply .entry))) (now (packet .entry)))) r (now (reply .entry))
+        (now (reply .exit)) (now (state .exit))
+        ⌝ }
 {
     if checks::well_formed(state) {
-        if 1024 <= reply.len() {
-            if framed(packet) {
+        if lengths::REPLY_BUFFER <= reply.len() {
+            if packet_ok(packet) {
                 let code = octets::u16_at(packet, 0);
                 let index = octets::u16_at(packet, 2);
                 return dispatch::dispatch(state, index, code, &packet[6..], reply);
@@ -48,10 +53,13 @@ fn command(state: &mut [u8], packet: &[u8], reply: &mut [u8]) -> Answer
 
 // A report of the radio.
 fn report(state: &mut [u8], index: u64, status: u64, reply: &mut [u8]) -> Answer
-    ensures { λ r. ⌜ Gives (meaning (now (state .entry)) (M.report (length (now (reply .entry))) index status)) r (now (reply .entry)) (now (reply .exit)) (now (state .exit)) ⌝ }
+    ensures { λ r. ⌜
+        Gives (meaning (now (state .entry)) (Hub.report (length (now (reply .entry))) index status)) r (now (reply .entry)) (now (reply .exit))
+        (now (state .exit))
+        ⌝ }
 {
     if checks::well_formed(state) {
-        if 1024 <= reply.len() {
+        if lengths::REPLY_BUFFER <= reply.len() {
             return settings::report(state, index, status, reply);
         }
         return Answer::SmallBuffer;
@@ -61,10 +69,13 @@ fn report(state: &mut [u8], index: u64, status: u64, reply: &mut [u8]) -> Answer
 
 // A reading of the clock.
 fn clock(state: &mut [u8], reading: u32, reply: &mut [u8]) -> Answer
-    ensures { λ r. ⌜ Gives (meaning (now (state .entry)) (M.clock (length (now (reply .entry))) reading)) r (now (reply .entry)) (now (reply .exit)) (now (state .exit)) ⌝ }
+    ensures { λ r. ⌜
+        Gives (meaning (now (state .entry)) (Hub.clock (length (now (reply .entry))) reading)) r (now (reply .entry)) (now (reply .exit))
+        (now (state .exit))
+        ⌝ }
 {
     if checks::well_formed(state) {
-        if 1024 <= reply.len() {
+        if lengths::REPLY_BUFFER <= reply.len() {
             return calls::clock(state, reading, reply);
         }
         return Answer::SmallBuffer;
@@ -82,10 +93,14 @@ fn plug(
     supported: u32,
     reply: &mut [u8],
 ) -> Answer
-    ensures { λ r. ⌜ Gives (meaning (now (state .entry)) (M.plug (length (now (reply .entry))) index (record { publicAddress = now (address .entry); version = version; manufacturer = manufacturer; supported = supported }))) r (now (reply .entry)) (now (reply .exit)) (now (state .exit)) ⌝ }
+    ensures { λ r. ⌜
+        Gives (meaning (now (state .entry)) (Hub.plug (length (now (reply .entry))) index
+        (record { publicAddress = now (address .entry); version = version; manufacturer = manufacturer; supported = supported }))) r
+        (now (reply .entry)) (now (reply .exit)) (now (state .exit))
+        ⌝ }
 {
     if checks::well_formed(state) {
-        if 1024 <= reply.len() {
+        if lengths::REPLY_BUFFER <= reply.len() {
             return calls::plug(
                 state,
                 index,
@@ -103,10 +118,12 @@ fn plug(
 
 // A controller is gone.
 fn unplug(state: &mut [u8], index: u64, reply: &mut [u8]) -> Answer
-    ensures { λ r. ⌜ Gives (meaning (now (state .entry)) (M.unplug (length (now (reply .entry))) index)) r (now (reply .entry)) (now (reply .exit)) (now (state .exit)) ⌝ }
+    ensures { λ r. ⌜
+        Gives (meaning (now (state .entry)) (Hub.unplug (length (now (reply .entry))) index)) r (now (reply .entry)) (now (reply .exit)) (now (state .exit))
+        ⌝ }
 {
     if checks::well_formed(state) {
-        if 1024 <= reply.len() {
+        if lengths::REPLY_BUFFER <= reply.len() {
             return calls::unplug(state, index, reply);
         }
         return Answer::SmallBuffer;
@@ -116,10 +133,12 @@ fn unplug(state: &mut [u8], index: u64, reply: &mut [u8]) -> Answer
 
 // The image of the state.
 fn save(state: &[u8], reply: &mut [u8]) -> Answer
-    ensures { λ r. ⌜ Gives (meaning (now (state .entry)) (M.save (length (now (reply .entry))))) r (now (reply .entry)) (now (reply .exit)) (now (state .entry)) ⌝ }
+    ensures { λ r. ⌜
+        Gives (meaning (now (state .entry)) (Hub.save (length (now (reply .entry))))) r (now (reply .entry)) (now (reply .exit)) (now (state .entry))
+        ⌝ }
 {
     if checks::well_formed(state) {
-        if 16014 <= reply.len() {
+        if lengths::LARGEST_IMAGE <= reply.len() {
             return image::save(state, reply);
         }
         return Answer::SmallBuffer;
@@ -129,10 +148,12 @@ fn save(state: &[u8], reply: &mut [u8]) -> Answer
 
 // The used part of a name.
 fn name(state: &[u8], index: u64, which: u64, reply: &mut [u8]) -> Answer
-    ensures { λ r. ⌜ Gives (hubName (now (state .entry)) index which (length (now (reply .entry)))) r (now (reply .entry)) (now (reply .exit)) (now (state .entry)) ⌝ }
+    ensures { λ r. ⌜
+        Gives (hubName (now (state .entry)) index which (length (now (reply .entry)))) r (now (reply .entry)) (now (reply .exit)) (now (state .entry))
+        ⌝ }
 {
     if checks::well_formed(state) {
-        if 1024 <= reply.len() {
+        if lengths::REPLY_BUFFER <= reply.len() {
             return information::tell_name(state, index, which, reply);
         }
         return Answer::SmallBuffer;
@@ -143,7 +164,10 @@ fn name(state: &[u8], index: u64, which: u64, reply: &mut [u8]) -> Answer
 // C's call of a command.
 #[no_mangle]
 pub extern "C" fn hub_command(state: &mut [u8], packet: &[u8], reply: &mut [u8]) -> u64
-    ensures { λ r. ⌜ Returns (hubCommand (now (state .entry)) (now (packet .entry)) (length (now (reply .entry)))) r (now (reply .entry)) (now (reply .exit)) (now (state .exit)) ⌝ }
+    ensures { λ r. ⌜
+        Returns (hubCommand (now (state .entry)) (now (packet .entry)) (length (now (reply .entry)))) r (now (reply .entry)) (now (reply .exit))
+        (now (state .exit))
+        ⌝ }
 {
     let a = command(state, packet, reply);
     pack(a)
@@ -152,7 +176,9 @@ pub extern "C" fn hub_command(state: &mut [u8], packet: &[u8], reply: &mut [u8])
 // C's call of a report.
 #[no_mangle]
 pub extern "C" fn hub_report(state: &mut [u8], index: u64, status: u64, reply: &mut [u8]) -> u64
-    ensures { λ r. ⌜ Returns (hubReport (now (state .entry)) index status (length (now (reply .entry)))) r (now (reply .entry)) (now (reply .exit)) (now (state .exit)) ⌝ }
+    ensures { λ r. ⌜
+        Returns (hubReport (now (state .entry)) index status (length (now (reply .entry)))) r (now (reply .entry)) (now (reply .exit)) (now (state .exit))
+        ⌝ }
 {
     let a = report(state, index, status, reply);
     pack(a)
@@ -161,7 +187,9 @@ pub extern "C" fn hub_report(state: &mut [u8], index: u64, status: u64, reply: &
 // C's call of a clock reading.
 #[no_mangle]
 pub extern "C" fn hub_clock(state: &mut [u8], reading: u32, reply: &mut [u8]) -> u64
-    ensures { λ r. ⌜ Returns (hubClock (now (state .entry)) reading (length (now (reply .entry)))) r (now (reply .entry)) (now (reply .exit)) (now (state .exit)) ⌝ }
+    ensures { λ r. ⌜
+        Returns (hubClock (now (state .entry)) reading (length (now (reply .entry)))) r (now (reply .entry)) (now (reply .exit)) (now (state .exit))
+        ⌝ }
 {
     let a = clock(state, reading, reply);
     pack(a)
@@ -178,7 +206,11 @@ pub extern "C" fn hub_plug(
     supported: u32,
     reply: &mut [u8],
 ) -> u64
-    ensures { λ r. ⌜ Returns (hubPlug (now (state .entry)) index (record { publicAddress = now (address .entry); version = version; manufacturer = manufacturer; supported = supported }) (length (now (reply .entry)))) r (now (reply .entry)) (now (reply .exit)) (now (state .exit)) ⌝ }
+    ensures { λ r. ⌜
+        Returns (hubPlug (now (state .entry)) index
+        (record { publicAddress = now (address .entry); version = version; manufacturer = manufacturer; supported = supported })
+        (length (now (reply .entry)))) r (now (reply .entry)) (now (reply .exit)) (now (state .exit))
+        ⌝ }
 {
     let a = plug(
         state,
@@ -195,7 +227,9 @@ pub extern "C" fn hub_plug(
 // C's call of an unplug.
 #[no_mangle]
 pub extern "C" fn hub_unplug(state: &mut [u8], index: u64, reply: &mut [u8]) -> u64
-    ensures { λ r. ⌜ Returns (hubUnplug (now (state .entry)) index (length (now (reply .entry)))) r (now (reply .entry)) (now (reply .exit)) (now (state .exit)) ⌝ }
+    ensures { λ r. ⌜
+        Returns (hubUnplug (now (state .entry)) index (length (now (reply .entry)))) r (now (reply .entry)) (now (reply .exit)) (now (state .exit))
+        ⌝ }
 {
     let a = unplug(state, index, reply);
     pack(a)
@@ -213,7 +247,9 @@ pub extern "C" fn hub_save(state: &[u8], reply: &mut [u8]) -> u64
 // C's call of a load: nothing is written but the state.
 #[no_mangle]
 pub extern "C" fn hub_load(state: &mut [u8], image: &[u8]) -> u64
-    ensures { λ r. ⌜ (r ≡ hubLoad (now (state .entry)) (now (image .entry)) .answer) × (now (state .exit) ≡ hubLoad (now (state .entry)) (now (image .entry)) .state) ⌝ }
+    ensures { λ r. ⌜
+        (r ≡ hubLoad (now (state .entry)) (now (image .entry)) .answer) × (now (state .exit) ≡ hubLoad (now (state .entry)) (now (image .entry)) .state)
+        ⌝ }
 {
     let a = restore::load(state, image);
     replies::number(a)
@@ -222,7 +258,9 @@ pub extern "C" fn hub_load(state: &mut [u8], image: &[u8]) -> u64
 // C's question for a name: the state is only read.
 #[no_mangle]
 pub extern "C" fn hub_name(state: &[u8], index: u64, which: u64, reply: &mut [u8]) -> u64
-    ensures { λ r. ⌜ Returns (hubName (now (state .entry)) index which (length (now (reply .entry)))) r (now (reply .entry)) (now (reply .exit)) (now (state .entry)) ⌝ }
+    ensures { λ r. ⌜
+        Returns (hubName (now (state .entry)) index which (length (now (reply .entry)))) r (now (reply .entry)) (now (reply .exit)) (now (state .entry))
+        ⌝ }
 {
     let a = name(state, index, which, reply);
     pack(a)

@@ -9,6 +9,7 @@ use lib.Seq.{drop-cons, length-take-le}
 use lib.Dec.{eqb, lit≤}
 use mathlib.Core.Bool.{true, false}
 use mathlib.Core.Option.{none}
+use Rattle.model.specs.Lengths as Lengths
 use Rattle.model.specs.declared.Settings.{Settings}
 use Rattle.model.specs.Octets.{Octets, be16, be32, joined}
 use Rattle.model.specs.State.{Controller, Table, hardwareOk, settingsOf, tableOf}
@@ -16,7 +17,7 @@ use Rattle.model.specs.Hub.{finished}
 use Rattle.model.specs.Layout.{controllersIn, decode}
 use Rattle.model.specs.Meanings.{stateOk}
 use Rattle.model.specs.Tables.{blockedRule, deviceRule, entries, identityKeyRule, linkKeyRule, longTermKeyRule, tableRules, uuidRule}
-use Rattle.model.specs.Image.{controllerImage, controllerImages, image, radioOk, tableImage}
+use Rattle.model.specs.Image.{controllerImage, controllerImages, image, radioOk, tableImage, flagsOf}
 use Rattle.model.specs.WellFormed.{plainOk, wellFormed}
 use Rattle.model.specs.Proof.Parts.{controller-fit, tables-many}
 use Rattle.model.specs.Tables.{ruleAt}
@@ -36,13 +37,14 @@ use Rattle.outcomes.proofs.Endings.{ends-done}
 use Rattle.replies.specs.Answers.{Gives}
 use Rattle.model.specs.declared.Answer.{Answer}
 use Rattle.model.specs.declared.Answer.the-variants.{Done}
-use Rattle.image.specs.Images.{fixedImage, image-parts, numbersImage}
+use Rattle.image.specs.Images.{fixedImage, numbersImage, flagsIn}
 use Rattle.replies.proofs.Laws.{then}
 
 -- 1. The records of a table ---------------------------------------------------------------------------------------------------------------------
 
 -- a run of lists written one by one: the first, then the rest
-pub write-first : (d : Octets) (p : ℕ) (x : Octets) (xs : List Octets) (n : ℕ) → length x ≡ n → writeAt d p (joined (x ∷ xs)) ≡ writeAt (writeAt d p x) (p + n) (joined xs)
+pub write-first : (d : Octets) (p : ℕ) (x : Octets) (xs : List Octets) (n : ℕ) → length x ≡ n
+    → writeAt d p (joined (x ∷ xs)) ≡ writeAt (writeAt d p x) (p + n) (joined xs)
 unfolding joined
 write-first d p x xs n e = rw (← e) (write-split d p x (joined xs))
 
@@ -81,12 +83,14 @@ module _ (s : Octets) (at size : ℕ) (d₀ : Octets) (p₀ : ℕ) where
       record { long = refl; room = omega arith; left = rw (← f); goes = rw (← f) }
 
   -- the record in slot k is written, and the walk goes on to the next slot in use
-  pub saving-turn : (d : Octets) (p k : ℕ) (d′ : Octets) (r : ℕ) → at + (4 + size * 32) ≤ length s → k < 32 → InUse s at size k → d′ ≡ writeAt d p (part s (at + (4 + size * k)) size) → NextUsed s at size (k + 1) r → k + 1 ≤ r → r ≤ 32
+  pub saving-turn : (d : Octets) (p k : ℕ) (d′ : Octets) (r : ℕ) → at + (4 + size * 32) ≤ length s → k < 32 → InUse s at size k
+      → d′ ≡ writeAt d p (part s (at + (4 + size * k)) size) → NextUsed s at size (k + 1) r → k + 1 ≤ r → r ≤ 32
       → Saving s at size d₀ p₀ d p k → Saving s at size d₀ p₀ d′ (p + size) r
   saving-turn d p k d′ r h l u w v lo hi i =
       let x : Octets = part s (at + (4 + size * k)) size in
       let n : length x ≡ size = length-part s (at + (4 + size * k)) size (omega (arith, slot-room size k l)) in
-      let f : entries (drop k (tableAt s at size)) ≡ x ∷ entries (drop r (tableAt s at size)) = in-use-entries s at size k u ∙ rw (next-entries s at size (k + 1) r v) in
+      let f : entries (drop k (tableAt s at size)) ≡ x ∷ entries (drop r (tableAt s at size)) = in-use-entries s at size k u
+      ∙ rw (next-entries s at size (k + 1) r v) in
       let m : size * (32 - r) ≤ size * (32 - (k + 1)) = mul-le-mul-left size (omega arith) in
       let a = slots-room size k l in
       let b = i .room in
@@ -102,13 +106,15 @@ module _ (s : Octets) (at size : ℕ) (d₀ : Octets) (p₀ : ℕ) where
   saving-room d p k l i = omega (arith, slots-room size k l, i .room)
 
   -- all are written: behind the count, that is the table's image
-  pub saving-last : (d : Octets) (p k n place : ℕ) (e : Octets) → 32 ≤ k → n ≡ length (entries (tableAt s at size)) → d₀ ≡ writeAt e place (n ∷ []) → p₀ ≡ place + 1 → Saving s at size d₀ p₀ d p k
+  pub saving-last : (d : Octets) (p k n place : ℕ) (e : Octets) → 32 ≤ k → n ≡ length (entries (tableAt s at size)) → d₀ ≡ writeAt e place (n ∷ [])
+      → p₀ ≡ place + 1 → Saving s at size d₀ p₀ d p k
       → (p ≡ place + length (tableImage (tableAt s at size))) × (p ≤ place + (1 + size * 32)) × (d ≡ writeAt e place (tableImage (tableAt s at size)))
   unfolding entries tableImage
   saving-last d p k n place e l m w q i =
       let t : Table = tableAt s at size in
       let f : drop k t ≡ [] = drop-of-length-le t {i = k} (rw (length-table s at size) l) in
-      let g : writeAt e place (n ∷ joined (entries t)) ≡ writeAt (writeAt e place (n ∷ [])) (place + 1) (joined (entries t)) = write-split e place (n ∷ []) (joined (entries t)) in
+      let g : writeAt e place (n ∷ joined (entries t)) ≡ writeAt (writeAt e place (n ∷ [])) (place + 1) (joined (entries t)) = write-split e place
+      (n ∷ []) (joined (entries t)) in
       let a : p ≡ p₀ + length (joined (entries t)) = goes-none p _ (rw f at (i .goes)) in
       let b : d ≡ writeAt d₀ p₀ (joined (entries t)) = sym (write-none d p) ∙ (rw f at (i .left)) in
       (omega arith, omega (arith, i .room), rw (← m) (b ∙ rw (w, q) (sym g)))
@@ -145,14 +151,18 @@ most-below (suc (suc (suc (suc (suc (suc (suc k))))))) l = absurd (omega arith)
 -- so has the controller at a present index
 pub six-tables : (s : Octets) (i : ℕ) → Ready s i → length (controllerOf s i .host .tables) ≡ 6
 unfolding tableRules
-six-tables s i r = tables-many (controllerOf s i .radio .hardware) tableRules (controllerOf s i .host .tables) (controller-fit (controllerOf s i) (controller-fine s i r) .tables)
+six-tables s i r =
+    tables-many (controllerOf s i .radio .hardware) tableRules (controllerOf s i .host .tables)
+    (controller-fit (controllerOf s i) (controller-fine s i r) .tables)
 
 -- the images of the tables from k on are still to be written, from the place p on
 pub record SavingTables (s : Octets) (i : ℕ) (d₀ : Octets) (p₀ : ℕ) (d : Octets) (p k : ℕ) : Type 0 where
   pub long : length d ≡ length d₀
   pub room : p ≤ p₀ + mostBefore k
-  pub left : writeAt d p (joined (map tableImage (drop k (controllerOf s i .host .tables)))) ≡ writeAt d₀ p₀ (joined (map tableImage (controllerOf s i .host .tables)))
-  pub goes : p + length (joined (map tableImage (drop k (controllerOf s i .host .tables)))) ≡ p₀ + length (joined (map tableImage (controllerOf s i .host .tables)))
+  pub left : writeAt d p (joined (map tableImage (drop k (controllerOf s i .host .tables)))) ≡ writeAt d₀ p₀
+      (joined (map tableImage (controllerOf s i .host .tables)))
+  pub goes : p + length (joined (map tableImage (drop k (controllerOf s i .host .tables)))) ≡ p₀ + length
+      (joined (map tableImage (controllerOf s i .host .tables)))
 
 module _ (s : Octets) (i : ℕ) (ready : Ready s i) (d₀ : Octets) (p₀ : ℕ) where
   -- at first all six are left
@@ -187,7 +197,8 @@ module _ (s : Octets) (i : ℕ) (ready : Ready s i) (d₀ : Octets) (p₀ : ℕ)
 
   -- none is left: the images of all six are written, in 3,718 octets at most
   pub tables-last : (d : Octets) (p k : ℕ) → k ≤ 6 → 6 ≤ k → SavingTables s i d₀ p₀ d p k
-      → (p ≡ p₀ + length (joined (map tableImage (controllerOf s i .host .tables)))) × (p ≤ p₀ + 3718) × (d ≡ writeAt d₀ p₀ (joined (map tableImage (controllerOf s i .host .tables))))
+      → (p ≡ p₀ + length (joined (map tableImage (controllerOf s i .host .tables)))) × (p ≤ p₀ + 3718)
+      × (d ≡ writeAt d₀ p₀ (joined (map tableImage (controllerOf s i .host .tables))))
   tables-last d p k u l v =
       let f : drop k (controllerOf s i .host .tables) ≡ [] = drop-of-length-le (controllerOf s i .host .tables) {i = k} (rw (six-tables s i ready) l) in
       (goes-none p _ (rw f at (v .goes)), omega (arith, v .room, most-below k u), sym (write-none d p) ∙ (rw f at (v .left)))
@@ -200,7 +211,8 @@ unfolding numbersImage be16 be32
 length-numbers m = refl
 
 -- two writes, the first of them behind the other: their order does not matter
-pub write-swap : (d : Octets) (p : ℕ) (a : Octets) (q : ℕ) (b : Octets) → p + length a ≤ q → q ≤ length d → writeAt (writeAt d q b) p a ≡ writeAt (writeAt d p a) q b
+pub write-swap : (d : Octets) (p : ℕ) (a : Octets) (q : ℕ) (b : Octets) → p + length a ≤ q → q ≤ length d
+    → writeAt (writeAt d q b) p a ≡ writeAt (writeAt d p a) q b
 write-swap d p a q b h l =
     let x : Octets = take q d in
     let y : Octets = drop q d in
@@ -214,8 +226,10 @@ write-swap d p a q b h l =
     rw (← take-append-drop q d) (rw (e, f, g, k))
 
 -- the four writes of the fixed part, in the order of the code
-pub fixed-written : (m : Settings) (i : ℕ) (d d1 d2 d3 d4 : Octets) (p : ℕ) → p + 24 ≤ length d → length (m .radio .hardware .publicAddress) ≡ 6 → d1 ≡ writeAt d (p + 18) (m .radio .staticAddress)
-    → d2 ≡ writeAt d1 (p + 1) (m .radio .hardware .publicAddress) → d3 ≡ writeAt d2 (p + 7) (numbersImage m) → d4 ≡ writeAt d3 p (i ∷ []) → d4 ≡ writeAt d p (fixedImage i m)
+pub fixed-written : (m : Settings) (i : ℕ) (d d1 d2 d3 d4 : Octets) (p : ℕ) → p + 24 ≤ length d → length (m .radio .hardware .publicAddress) ≡ 6
+    → d1 ≡ writeAt d (p + 18) (m .radio .staticAddress)
+    → d2 ≡ writeAt d1 (p + 1) (m .radio .hardware .publicAddress) → d3 ≡ writeAt d2 (p + 7) (numbersImage m) → d4 ≡ writeAt d3 p (i ∷ [])
+    → d4 ≡ writeAt d p (fixedImage i m)
 unfolding fixedImage
 fixed-written m i d d1 d2 d3 d4 p room n a b e f =
     let x : Octets = m .radio .hardware .publicAddress in
@@ -225,8 +239,10 @@ fixed-written m i d d1 d2 d3 d4 p room n a b e f =
     let k : length (x ++ y) ≡ 17 = length-append x y ∙ omega arith in
     let g : length d1 ≡ length d = rw a (length-writeAt d (p + 18) z) in
     let h : d3 ≡ writeAt d1 (p + 1) (x ++ y) = e ∙ rw b (then d1 (p + 1) x y (p + 7) (omega arith)) in
-    let q : d4 ≡ writeAt d1 p (i ∷ (x ++ y)) = f ∙ rw h (write-swap d1 p (i ∷ []) (p + 1) (x ++ y) (omega arith) (omega arith) ∙ then d1 p (i ∷ []) (x ++ y) (p + 1) (omega arith)) in
-    let r : writeAt d1 p (i ∷ (x ++ y)) ≡ writeAt d p (i ∷ ((x ++ y) ++ z)) = rw a (write-swap d p (i ∷ (x ++ y)) (p + 18) z (omega arith) (omega arith) ∙ then d p (i ∷ (x ++ y)) z (p + 18) (omega arith)) in
+    let q : d4 ≡ writeAt d1 p (i ∷ (x ++ y)) = f
+    ∙ rw h (write-swap d1 p (i ∷ []) (p + 1) (x ++ y) (omega arith) (omega arith) ∙ then d1 p (i ∷ []) (x ++ y) (p + 1) (omega arith)) in
+    let r : writeAt d1 p (i ∷ (x ++ y)) ≡ writeAt d p (i ∷ ((x ++ y) ++ z)) = rw a
+    (write-swap d p (i ∷ (x ++ y)) (p + 18) z (omega arith) (omega arith) ∙ then d p (i ∷ (x ++ y)) z (p + 18) (omega arith)) in
     q ∙ r ∙ rw (append-assoc x y z)
 
 -- the fixed part has 24 octets
@@ -234,16 +250,24 @@ pub length-fixed : (i : ℕ) (m : Settings) → length (m .radio .hardware .publ
 unfolding fixedImage
 length-fixed i m a b = simp length-append (omega (arith, length-numbers m))
 
+-- a controller's image: the fixed part, the name, the tables
+pub image-parts : (i : ℕ) (c : Controller) → controllerImage i c ≡ fixedImage i (settingsOf c) ++ (c .host .name ++ joined (map tableImage (c .host .tables)))
+unfolding controllerImage flagsOf fixedImage numbersImage flagsIn settingsOf
+image-parts i c = simp append-assoc
+
 -- the fixed part, the name and the tables, written one behind the other, are the controller's image
-pub controller-written : (s : Octets) (i : ℕ) (m : Settings) (d d1 d2 d3 : Octets) (p np r : ℕ) → Ready s i → m ≡ settingsOf (controllerOf s i) → d1 ≡ writeAt d p (fixedImage i m)
+pub controller-written : (s : Octets) (i : ℕ) (m : Settings) (d d1 d2 d3 : Octets) (p np r : ℕ) → Ready s i → m ≡ settingsOf (controllerOf s i)
+    → d1 ≡ writeAt d p (fixedImage i m)
     → np ≡ placeOf i 4 → d2 ≡ writeAt d1 (p + 24) (part s np 260)
-    → r ≡ p + 284 + length (joined (map tableImage (controllerOf s i .host .tables))) → d3 ≡ writeAt d2 (p + 284) (joined (map tableImage (controllerOf s i .host .tables)))
+    → r ≡ p + 284 + length (joined (map tableImage (controllerOf s i .host .tables)))
+    → d3 ≡ writeAt d2 (p + 284) (joined (map tableImage (controllerOf s i .host .tables)))
     → (r ≡ p + length (controllerImage i (controllerOf s i))) × (d3 ≡ writeAt d p (controllerImage i (controllerOf s i)))
 unfolding settingsOf radioOk hardwareOk
 controller-written s i m d d1 d2 d3 p np r ready em a en b g e =
     let c : Controller = controllerOf s i in
     let h = controller-fit c (controller-fine s i ready) in
-    let p6 : length (c .radio .hardware .publicAddress) ≡ 6 = equal _ _ (and-true (eqb (length (c .radio .hardware .publicAddress)) 6) _ (and-true (hardwareOk (c .radio .hardware)) _ (h .radio) .0) .0) in
+    let p6 : length (c .radio .hardware .publicAddress) ≡ 6 = equal _ _
+    (and-true (eqb (length (c .radio .hardware .publicAddress)) 6) _ (and-true (hardwareOk (c .radio .hardware)) _ (h .radio) .0) .0) in
     let s6 : length (c .radio .staticAddress) ≡ 6 = equal _ _ (h .staticAddress) in
     let n : length (c .host .name) ≡ 260 = equal _ _ (and-true (eqb (length (c .host .name)) 260) _ (h .name) .0) in
     let x : Octets = fixedImage i (settingsOf c) in
@@ -300,7 +324,8 @@ all-first s d₀ = record { long = refl; room = omega arith; few = omega arith; 
 
 module _ (s d₀ d : Octets) (p n i : ℕ) (l : i < 4) (v : SavingAll s d₀ d p n i) where
   -- a controller stands there: its image is written, and it is counted
-  pub all-present : (d′ : Octets) (r : ℕ) → presentAt s i ≡ true → r ≡ p + length (controllerImage i (controllerOf s i)) → r ≤ p + 4002 → d′ ≡ writeAt d p (controllerImage i (controllerOf s i))
+  pub all-present : (d′ : Octets) (r : ℕ) → presentAt s i ≡ true → r ≡ p + length (controllerImage i (controllerOf s i)) → r ≤ p + 4002
+      → d′ ≡ writeAt d p (controllerImage i (controllerOf s i))
       → SavingAll s d₀ d′ r (n + 1) (i + 1)
   all-present d′ r e g h w =
       let x : Octets = controllerImage i (controllerOf s i) in
@@ -331,7 +356,8 @@ unfolding imagesFrom controllerImages
 images-end s i l = let f : drop i (decode s .plain .controllers) ≡ [] = drop-of-length-le (decode s .plain .controllers) {i = i} (rw (four-slots s) l) in rw f
 
 -- the three writes of the head, over controllers that are written behind it
-head-written : (d d1 d2 d3 body : Octets) (p n : ℕ) → 6 ≤ length d → d1 ≡ writeAt (writeAt d 6 body) 0 (be32 p) → d2 ≡ writeAt d1 4 (1 ∷ []) → d3 ≡ writeAt d2 5 (n ∷ []) → d3 ≡ writeAt d 0 (be32 p ++ (1 ∷ n ∷ body))
+head-written : (d d1 d2 d3 body : Octets) (p n : ℕ) → 6 ≤ length d → d1 ≡ writeAt (writeAt d 6 body) 0 (be32 p) → d2 ≡ writeAt d1 4 (1 ∷ [])
+    → d3 ≡ writeAt d2 5 (n ∷ []) → d3 ≡ writeAt d 0 (be32 p ++ (1 ∷ n ∷ body))
 unfolding be32
 head-written d d1 d2 d3 body p n l a b c =
     let e : Octets = writeAt d 6 body in
@@ -351,7 +377,8 @@ unfolding image imagesFrom be32
 length-image s p g = omega arith
 
 -- the whole image is written
-pub all-written : (s d₀ d d1 d2 d3 : Octets) (p n i : ℕ) (r : Answer) → stateOk s ≡ true → 16014 ≤ length d₀ → 4 ≤ i → SavingAll s d₀ d p n i → d1 ≡ writeAt d 0 (be32 p) → d2 ≡ writeAt d1 4 (1 ∷ []) → d3 ≡ writeAt d2 5 (n ∷ []) → r ≡ Done p
+pub all-written : (s d₀ d d1 d2 d3 : Octets) (p n i : ℕ) (r : Answer) → stateOk s ≡ true → Lengths.largestImage ≤ length d₀ → 4 ≤ i
+    → SavingAll s d₀ d p n i → d1 ≡ writeAt d 0 (be32 p) → d2 ≡ writeAt d1 4 (1 ∷ []) → d3 ≡ writeAt d2 5 (n ∷ []) → r ≡ Done p
     → Gives (ended s (finished (image (decode s .plain)) (decode s .plain))) r d₀ d3 s
 unfolding image imagesFrom
 all-written s d₀ d d1 d2 d3 p n i r ok big l v a b c e =

@@ -1,11 +1,9 @@
 -- The parts of a controller's image that the contracts cite, in the order in which they lie.
 use Prim.Native.Nat.{ℕ, _+_}
-use mathlib.Core.Path.{_≡_}
-use mathlib.Core.List.{_∷_, _++_, map, append-assoc}
+use mathlib.Core.List.{_∷_, _++_}
 use Rattle.model.specs.declared.Settings.{Settings}
-use Rattle.model.specs.Octets.{Octets, be16, be32, joined}
-use Rattle.model.specs.State.{Controller, flag, settingsOf}
-use Rattle.model.specs.Image.{controllerImage, flagsOf, tableImage}
+use Rattle.model.specs.Octets.{Octets, be16, be32}
+use Rattle.model.specs.State.{flag}
 
 -- the flags of an image, from the settings: connectable, bondable, Low Energy (01, The image)
 unfoldable pub flagsIn : Settings → ℕ
@@ -18,8 +16,3 @@ numbersImage m = m .radio .hardware .version ∷ (be16 (m .radio .hardware .manu
 -- index 1, public address 6, the numbers 11, static address 6
 unfoldable pub fixedImage : ℕ → Settings → Octets
 fixedImage i m = i ∷ (m .radio .hardware .publicAddress ++ (numbersImage m ++ m .radio .staticAddress))
-
--- a controller's image: the fixed part, the name, the tables
-pub image-parts : (i : ℕ) (c : Controller) → controllerImage i c ≡ fixedImage i (settingsOf c) ++ (c .host .name ++ joined (map tableImage (c .host .tables)))
-unfolding controllerImage flagsOf fixedImage numbersImage flagsIn settingsOf
-image-parts i c = simp append-assoc

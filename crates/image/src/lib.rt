@@ -4,6 +4,7 @@ ghost use mathlib.Core.Bool.{true};
 ghost use Prim.Native.Nat.{_+_, _*_, _≤_, _<_};
 ghost use mathlib.Core.List.{map};
 ghost use lib.ListN.{length};
+ghost use Rattle.model.specs.Lengths as Lengths;
 ghost use Rattle.model.specs.Octets.{joined};
 ghost use Rattle.model.specs.State.{flag};
 ghost use Rattle.model.specs.Hub.{finished};
@@ -20,9 +21,12 @@ use model::Answer;
 use model::Settings;
 
 // Writes the image of a table at a place: how many records it has, and the records in slot order. Gives the place behind it.
-pub fn save_records(state: &[u8], at: usize, size: usize, out: &mut [u8], place: usize) -> usize
+fn save_records(state: &[u8], at: usize, size: usize, out: &mut [u8], place: usize) -> usize
     requires { ⌜ (at + (4 + size * 32) ≤ length (now state)) × (place + (1 + size * 32) ≤ length (now out)) ⌝ }
-    ensures { λ r. ⌜ (r ≡ place + length (tableImage (tableAt (now (state .entry)) at size))) × (r ≤ place + (1 + size * 32)) × (now (out .exit) ≡ writeAt (now (out .entry)) place (tableImage (tableAt (now (state .entry)) at size))) ⌝ }
+    ensures { λ r. ⌜
+        (r ≡ place + length (tableImage (tableAt (now (state .entry)) at size))) × (r ≤ place + (1 + size * 32))
+        × (now (out .exit) ≡ writeAt (now (out .entry)) place (tableImage (tableAt (now (state .entry)) at size)))
+        ⌝ }
 {
     octets::put8(out, place, table::used(state, at) as u8);
     let mut p = place + 1;
@@ -38,7 +42,10 @@ pub fn save_records(state: &[u8], at: usize, size: usize, out: &mut [u8], place:
 // Writes the images of the six tables of the controller at an index. Gives the place behind them.
 fn save_tables(state: &[u8], index: u64, out: &mut [u8], place: usize) -> usize
     requires { ⌜ Ready (now state) index × (place + 3718 ≤ length (now out)) ⌝ }
-    ensures { λ r. ⌜ (r ≡ place + length (joined (map tableImage (controllerOf (now (state .entry)) index .host .tables)))) × (r ≤ place + 3718) × (now (out .exit) ≡ writeAt (now (out .entry)) place (joined (map tableImage (controllerOf (now (state .entry)) index .host .tables)))) ⌝ }
+    ensures { λ r. ⌜
+        (r ≡ place + length (joined (map tableImage (controllerOf (now (state .entry)) index .host .tables)))) × (r ≤ place + 3718)
+        × (now (out .exit) ≡ writeAt (now (out .entry)) place (joined (map tableImage (controllerOf (now (state .entry)) index .host .tables))))
+        ⌝ }
 {
     let mut p = place;
     let mut k: usize = 0;
@@ -55,22 +62,15 @@ fn save_tables(state: &[u8], index: u64, out: &mut [u8], place: usize) -> usize
     p
 }
 
-// The value of a flag that is on or off.
-fn flag_of(b: bool, n: u64) -> u64
-    ensures { λ r. ⌜ (r ≡ flag b n) × (r ≤ n) ⌝ }
-{
-    if b { n } else { 0 }
-}
-
 // The flags that the image keeps: connectable, bondable, Low Energy.
 fn flags_of(m: Settings) -> u64
     ensures { λ r. ⌜ r ≡ flagsIn m ⌝ }
 {
     let r = m.radio;
     let h = m.host;
-    let connectable = flag_of(r.connectable, 2);
-    let bondable = flag_of(h.bondable, 16);
-    let low_energy = flag_of(r.lowEnergy, 512);
+    let connectable = rules::flag_of(r.connectable, 2);
+    let bondable = rules::flag_of(h.bondable, 16);
+    let low_energy = rules::flag_of(r.lowEnergy, 512);
     connectable + bondable + low_energy
 }
 
@@ -115,9 +115,12 @@ fn save_fixed(m: Settings, index: u64, out: &mut [u8], place: usize)
 }
 
 // Writes the image of the controller at an index. Gives the place behind it.
-pub fn save_controller(state: &[u8], index: u64, out: &mut [u8], place: usize) -> usize
+fn save_controller(state: &[u8], index: u64, out: &mut [u8], place: usize) -> usize
     requires { ⌜ Ready (now state) index × (place + 4002 ≤ length (now out)) ⌝ }
-    ensures { λ r. ⌜ (r ≡ place + length (controllerImage index (controllerOf (now (state .entry)) index))) × (r ≤ place + 4002) × (now (out .exit) ≡ writeAt (now (out .entry)) place (controllerImage index (controllerOf (now (state .entry)) index))) ⌝ }
+    ensures { λ r. ⌜
+        (r ≡ place + length (controllerImage index (controllerOf (now (state .entry)) index))) × (r ≤ place + 4002)
+        × (now (out .exit) ≡ writeAt (now (out .entry)) place (controllerImage index (controllerOf (now (state .entry)) index)))
+        ⌝ }
 {
     let m = layout::settings_at(state, index);
     save_fixed(m, index, out, place);
@@ -127,8 +130,11 @@ pub fn save_controller(state: &[u8], index: u64, out: &mut [u8], place: usize) -
 
 // Writes the image of the state: the controllers in ascending order, then the head before them, which says how long all is and how many there are.
 pub fn save(state: &[u8], out: &mut [u8]) -> Answer
-    requires { ⌜ (stateOk (now state) ≡ true) × (16014 ≤ length (now out)) ⌝ }
-    ensures { λ r. ⌜ Gives (ended (now (state .entry)) (finished (image (decode (now (state .entry)) .plain)) (decode (now (state .entry)) .plain))) r (now (out .entry)) (now (out .exit)) (now (state .entry)) ⌝ }
+    requires { ⌜ (stateOk (now state) ≡ true) × (Lengths.largestImage ≤ length (now out)) ⌝ }
+    ensures { λ r. ⌜
+        Gives (ended (now (state .entry)) (finished (image (decode (now (state .entry)) .plain)) (decode (now (state .entry)) .plain))) r
+        (now (out .entry)) (now (out .exit)) (now (state .entry))
+        ⌝ }
 {
     let mut place: usize = 6;
     let mut count: u8 = 0;

@@ -9,6 +9,8 @@ use lib.ListN.{length, length-append}
 use lib.Dec.{lit≤, lit<}
 use lib.Seq.{set-getD}
 use borrow.Author.Tests.{eq-eqb, ne-eqb}
+use Rattle.model.specs.Statuses as Statuses
+use Rattle.model.specs.Lengths as Lengths
 use Rattle.model.specs.declared.Hardware.{Hardware}
 use Rattle.model.specs.declared.Settings.{Settings}
 use Rattle.model.specs.Octets.{Octets, le16, le32, commandComplete, commandStatus}
@@ -28,13 +30,13 @@ use Rattle.replies.specs.Answers.{Gives}
 use Rattle.model.specs.declared.Answer.{Answer}
 use Rattle.model.specs.declared.Answer.the-variants.{Done, Refused}
 use Rattle.replies.proofs.Laws.{length-complete, then}
-use Rattle.outcomes.specs.Outcomes.{served}
-use Rattle.outcomes.proofs.Endings.{served-length, served-done}
+use Rattle.outcomes.specs.Outcomes.{immediateCommand}
+use Rattle.outcomes.proofs.Endings.{immediate-length, immediate-done}
 use Rattle.information.specs.Controller.{informationHead, informationOf}
 use Rattle.information.proofs.Name.{name-fits}
 
 -- the UUIDs are the first table, of records of 17 octets
-pub uuids-fit : (i place : ℕ) → i < 4 → place ≡ tablePlace i 0 → place + 548 ≤ 16116
+pub uuids-fit : (i place : ℕ) → i < 4 → place ≡ tablePlace i 0 → place + 548 ≤ Lengths.state
 unfolding ruleAt tableRules uuidRule
 uuids-fit i place l e = rw e (table-fits i 0 l (lit< tt))
 
@@ -55,8 +57,10 @@ unfolding informationHead informationOf classOf
 joined c hints e = rw e (simp append-assoc)
 
 -- address, head and name, written one behind the other, fill the 280 octets with what is told of the controller
-pub information-put : (s : Octets) (i : ℕ) (d d₁ d₂ d₃ : Octets) (m : Settings) (f : Hardware) (w place hints name : ℕ) (head a : Octets) → Ready s i → length d ≡ 280
-    → m ≡ settingsOf (controllerOf s i) → f ≡ controllerOf s i .radio .hardware → w ≡ currentSettings m → place ≡ tablePlace i 0 → hints ≡ joinedByOr 16 (entries (tableAt s place 17))
+pub information-put : (s : Octets) (i : ℕ) (d d₁ d₂ d₃ : Octets) (m : Settings) (f : Hardware) (w place hints name : ℕ) (head a : Octets) → Ready s i
+    → length d ≡ 280
+    → m ≡ settingsOf (controllerOf s i) → f ≡ controllerOf s i .radio .hardware → w ≡ currentSettings m → place ≡ tablePlace i 0
+    → hints ≡ joinedByOr 16 (entries (tableAt s place 17))
     → head ≡ informationHead f w hints → a ≡ f .publicAddress → 6 ≡ length a → name ≡ placeOf i 4
     → d₁ ≡ writeAt d 0 a → d₂ ≡ writeAt d₁ 6 head → d₃ ≡ writeAt d₂ 20 (part s name 260) → d₃ ≡ informationOf (controllerOf s i)
 information-put s i d d₁ d₂ d₃ m f w place hints name head a g long em ef ew ep eh ed ea six en w₁ w₂ w₃ =
@@ -93,14 +97,16 @@ act-is : (i : ℕ) (c : Controller) (ps : Octets) → readInformation .act i c p
 unfolding readInformation informationOf
 act-is i c ps = refl
 
-module _ (s : Octets) (i : ℕ) (ps d d′ : Octets) (r : Answer) (g : Ready s i) (big : 1024 ≤ length d) where
+module _ (s : Octets) (i : ℕ) (ps d d′ : Octets) (r : Answer) (g : Ready s i) (big : Lengths.replyBuffer ≤ length d) where
   -- with parameters: Invalid Parameters
-  pub information-length : (length ps ≡ 0 → ⊥) → r ≡ Refused 9 → d′ ≡ writeAt d 0 (commandStatus i 4 0x0D) → Gives (served s i 4 ps readInformation) r d d′ s
-  information-length e n w = served-length s i 4 ps readInformation d d′ r g big (size-false ps e) n w
+  pub information-length : (length ps ≡ 0 → ⊥) → r ≡ Refused 9 → d′ ≡ writeAt d 0 (commandStatus i 4 Statuses.invalidParameters)
+      → Gives (immediateCommand s i 4 ps readInformation) r d d′ s
+  information-length e n w = immediate-length s i 4 ps readInformation d d′ r g big (size-false ps e) n w
 
   -- without: Command Complete with the 280 octets, and the state as it was
-  pub information-done : length ps ≡ 0 → (body : Octets) → 280 ≡ length body → body ≡ informationOf (controllerOf s i) → r ≡ Done 289 → d′ ≡ writeAt d 0 (commandComplete i 4 0 body)
-      → Gives (served s i 4 ps readInformation) r d d′ s
+  pub information-done : length ps ≡ 0 → (body : Octets) → 280 ≡ length body → body ≡ informationOf (controllerOf s i) → r ≡ Done 289
+      → d′ ≡ writeAt d 0 (commandComplete i 4 0 body)
+      → Gives (immediateCommand s i 4 ps readInformation) r d d′ s
   information-done e body n b er w =
-      served-done s i 4 ps readInformation d d′ r g big (size-true ps e) s body [] (controllerOf s i .host) 289
+      immediate-done s i 4 ps readInformation d d′ r g big (size-true ps e) s body [] (controllerOf s i .host) 289
       (act-is i (controllerOf s i) ps ∙ rw b) er (rw append-nil (length-complete i 4 0 body 280 (sym n))) (lit≤ tt) (w ∙ rw append-nil) (put-back s i g)

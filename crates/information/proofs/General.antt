@@ -9,6 +9,8 @@ use mathlib.Core.Option.{Option, none, some}
 use lib.ListN.{length, getD, take, drop, length-append, length-take}
 use lib.Seq.{take-at}
 use borrow.Author.Tests.{eq-eqb, ne-eqb}
+use Rattle.model.specs.Statuses as Statuses
+use Rattle.model.specs.Lengths as Lengths
 use Rattle.model.specs.Octets.{Octets, le16, commandComplete, commandStatus}
 use Rattle.model.specs.State.{Controller, PlainHub}
 use Rattle.model.specs.Reasons.{statusOf, lengthWrong, indexNotNone}
@@ -23,7 +25,7 @@ use Rattle.layout.proofs.Reading.{present-slot, absent-slot}
 use Rattle.replies.specs.Answers.{Gives}
 use Rattle.model.specs.declared.Answer.{Answer}
 use Rattle.model.specs.declared.Answer.the-variants.{Done, Refused}
-use Rattle.outcomes.specs.Outcomes.{general}
+use Rattle.outcomes.specs.Outcomes.{generalCommand}
 use Rattle.outcomes.proofs.Endings.{ends-refused, ends-done}
 use Rattle.information.specs.General.{Reply, listed}
 use Rattle.model.specs.Proof.Room.{length-complete, length-le16}
@@ -31,51 +33,59 @@ use Rattle.model.specs.Proof.Room.{length-complete, length-le16}
 -- 1. The two checks, and done -----------------------------------------------------------------------------------------------------------------
 
 -- the model refuses an index other than 0xFFFF with Invalid Index
-out-index : (p : PlainHub) (i code : ℕ) (ps : Octets) (f : PlainHub → Octets) → (i ≡ 65535 → ⊥) → generalOut p i code ps f ≡ refused (byStatus i code) indexNotNone
+out-index : (p : PlainHub) (i code : ℕ) (ps : Octets) (f : PlainHub → Octets) → (i ≡ 65535 → ⊥)
+    → generalOut p i code ps f ≡ refused (byStatus i code) indexNotNone
 unfolding generalOut
 out-index p i code ps f e = rw (ne-eqb i 65535 e, generalOut)
 
 -- then it refuses any parameters with Invalid Parameters
-out-length : (p : PlainHub) (i code : ℕ) (ps : Octets) (f : PlainHub → Octets) → i ≡ 65535 → (length ps ≡ 0 → ⊥) → generalOut p i code ps f ≡ refused (byStatus i code) lengthWrong
+out-length : (p : PlainHub) (i code : ℕ) (ps : Octets) (f : PlainHub → Octets) → i ≡ 65535 → (length ps ≡ 0 → ⊥)
+    → generalOut p i code ps f ≡ refused (byStatus i code) lengthWrong
 unfolding generalOut
 out-length p i code ps f e l = rw (eq-eqb i 65535 e, generalOut, ne-eqb (length ps) 0 l)
 
 -- else the command is done, and the hub stays as it was
-out-done : (p : PlainHub) (i code : ℕ) (ps : Octets) (f : PlainHub → Octets) → i ≡ 65535 → length ps ≡ 0 → generalOut p i code ps f ≡ finished (commandComplete i code 0 (f p)) p
+out-done : (p : PlainHub) (i code : ℕ) (ps : Octets) (f : PlainHub → Octets) → i ≡ 65535 → length ps ≡ 0
+    → generalOut p i code ps f ≡ finished (commandComplete i code 0 (f p)) p
 unfolding generalOut
 out-done p i code ps f e l = rw (eq-eqb i 65535 e, generalOut, eq-eqb (length ps) 0 l)
 
-module _ (i code : ℕ) (ps d d′ : Octets) (r : Answer) (s : Octets) (f : PlainHub → Octets) (ok : stateOk s ≡ true) (big : 1024 ≤ length d) where
+module _ (i code : ℕ) (ps d d′ : Octets) (r : Answer) (s : Octets) (f : PlainHub → Octets) (ok : stateOk s ≡ true) (big : Lengths.replyBuffer ≤ length d) where
   -- another index
-  pub general-index : (i ≡ 65535 → ⊥) → r ≡ Refused 9 → d′ ≡ writeAt d 0 (commandStatus i code 0x11) → Gives (general s i code ps f) r d d′ s
-  unfolding general statusOf
+  pub general-index : (i ≡ 65535 → ⊥) → r ≡ Refused 9 → d′ ≡ writeAt d 0 (commandStatus i code Statuses.invalidIndex)
+      → Gives (generalCommand s i code ps f) r d d′ s
+  unfolding generalCommand statusOf
   general-index e n w = rw (out-index (decode s .plain) i code ps f e) (ends-refused s i code indexNotNone d d′ r ok big n w)
 
   -- parameters
-  pub general-length : i ≡ 65535 → (length ps ≡ 0 → ⊥) → r ≡ Refused 9 → d′ ≡ writeAt d 0 (commandStatus i code 0x0D) → Gives (general s i code ps f) r d d′ s
-  unfolding general statusOf
+  pub general-length : i ≡ 65535 → (length ps ≡ 0 → ⊥) → r ≡ Refused 9 → d′ ≡ writeAt d 0 (commandStatus i code Statuses.invalidParameters)
+      → Gives (generalCommand s i code ps f) r d d′ s
+  unfolding generalCommand statusOf
   general-length e l n w = rw (out-length (decode s .plain) i code ps f e l) (ends-refused s i code lengthWrong d d′ r ok big n w)
 
   -- done: the state is as it was
   pub general-done : i ≡ 65535 → length ps ≡ 0 → (body : Octets) → length body ≤ 1000 → f (decode s .plain) ≡ body → r ≡ Done (9 + length body)
-      → d′ ≡ writeAt d 0 (commandComplete i code 0 body) → Gives (general s i code ps f) r d d′ s
-  unfolding general
+      → d′ ≡ writeAt d 0 (commandComplete i code 0 body) → Gives (generalCommand s i code ps f) r d d′ s
+  unfolding generalCommand
   general-done e l body short eb n w =
       rw (out-done (decode s .plain) i code ps f e l, eb)
-      (ends-done s (commandComplete i code 0 body) (decode s .plain) (9 + length body) d d′ s r n (length-complete i code 0 body) (omega arith) w (state-back s ok))
+      (ends-done s (commandComplete i code 0 body) (decode s .plain) (9 + length body) d d′ s r n (length-complete i code 0 body) (omega arith) w
+      (state-back s ok))
 
 -- the same, whatever the state and what the command returns of it
-module _ (i code : ℕ) (ps body d d′ : Octets) (r : Answer) (big : 1024 ≤ length d) where
+module _ (i code : ℕ) (ps body d d′ : Octets) (r : Answer) (big : Lengths.replyBuffer ≤ length d) where
   -- an index other than 0xFFFF: Invalid Index
-  pub reply-index : (i ≡ 65535 → ⊥) → r ≡ Refused 9 → d′ ≡ writeAt d 0 (commandStatus i code 0x11) → Reply i code ps body r d d′
+  pub reply-index : (i ≡ 65535 → ⊥) → r ≡ Refused 9 → d′ ≡ writeAt d 0 (commandStatus i code Statuses.invalidIndex) → Reply i code ps body r d d′
   reply-index e n w = record { gives = λ s f ok g. general-index i code ps d d′ r s f ok big e n w }
 
   -- parameters, where there are to be none: Invalid Parameters
-  pub reply-length : i ≡ 65535 → (length ps ≡ 0 → ⊥) → r ≡ Refused 9 → d′ ≡ writeAt d 0 (commandStatus i code 0x0D) → Reply i code ps body r d d′
+  pub reply-length : i ≡ 65535 → (length ps ≡ 0 → ⊥) → r ≡ Refused 9 → d′ ≡ writeAt d 0 (commandStatus i code Statuses.invalidParameters)
+      → Reply i code ps body r d d′
   reply-length e l n w = record { gives = λ s f ok g. general-length i code ps d d′ r s f ok big e l n w }
 
   -- neither: Command Complete with the body
-  pub reply-done : i ≡ 65535 → length ps ≡ 0 → length body ≤ 1000 → r ≡ Done (9 + length body) → d′ ≡ writeAt d 0 (commandComplete i code 0 body) → Reply i code ps body r d d′
+  pub reply-done : i ≡ 65535 → length ps ≡ 0 → length body ≤ 1000 → r ≡ Done (9 + length body) → d′ ≡ writeAt d 0 (commandComplete i code 0 body)
+      → Reply i code ps body r d d′
   reply-done e l short n w = record { gives = λ s f ok g. general-done i code ps d d′ r s f ok big e l body short g n w }
 
 -- 2. Constant octets ----------------------------------------------------------------------------------------------------------------------------
@@ -88,9 +98,10 @@ version-is p = refl
 -- how many commands and events there are, 19 and 10, and which (01, Commands, 0x0002)
 pub commands-is : (p : PlainHub) → readCommands p
     ≡ 19 ∷ 0 ∷ 10 ∷ 0
-    ∷ 0x03 ∷ 0 ∷ 0x04 ∷ 0 ∷ 0x05 ∷ 0 ∷ 0x06 ∷ 0 ∷ 0x07 ∷ 0 ∷ 0x09 ∷ 0 ∷ 0x0D ∷ 0 ∷ 0x0F ∷ 0 ∷ 0x10 ∷ 0 ∷ 0x11 ∷ 0
+    ∷ Statuses.failed ∷ 0 ∷ 0x04 ∷ 0 ∷ 0x05 ∷ 0 ∷ Statuses.notPaired ∷ 0 ∷ Statuses.noResources ∷ 0 ∷ 0x09 ∷ 0 ∷ Statuses.invalidParameters ∷ 0
+    ∷ Statuses.notPowered ∷ 0 ∷ 0x10 ∷ 0 ∷ Statuses.invalidIndex ∷ 0
     ∷ 0x12 ∷ 0 ∷ 0x13 ∷ 0 ∷ 0x1B ∷ 0 ∷ 0x26 ∷ 0 ∷ 0x27 ∷ 0 ∷ 0x2B ∷ 0 ∷ 0x30 ∷ 0 ∷ 0x33 ∷ 0 ∷ 0x34 ∷ 0
-    ∷ 0x04 ∷ 0 ∷ 0x05 ∷ 0 ∷ 0x06 ∷ 0 ∷ 0x07 ∷ 0 ∷ 0x08 ∷ 0 ∷ 0x14 ∷ 0 ∷ 0x15 ∷ 0 ∷ 0x16 ∷ 0 ∷ 0x1A ∷ 0 ∷ 0x1B ∷ 0 ∷ []
+    ∷ 0x04 ∷ 0 ∷ 0x05 ∷ 0 ∷ Statuses.notPaired ∷ 0 ∷ Statuses.noResources ∷ 0 ∷ 0x08 ∷ 0 ∷ Statuses.highest ∷ 0 ∷ 0x15 ∷ 0 ∷ 0x16 ∷ 0 ∷ 0x1A ∷ 0 ∷ 0x1B ∷ 0 ∷ []
 unfolding readCommands commandCodes eventCodes words le16
 commands-is p = refl
 
@@ -150,7 +161,8 @@ four s = listed s 0 ++ (listed s 1 ++ (listed s 2 ++ listed s 3))
 -- what the code lists at the four indexes is what the model lists
 four-is : (s : Octets) → presentFrom 0 (decode s .plain .controllers) ≡ four s
 unfolding four decode controllersIn
-four-is s = from-four _ _ _ _ ∙ rw (append-nil, listed-is s 0 (omega arith), listed-is s 1 (omega arith), listed-is s 2 (omega arith), listed-is s 3 (omega arith))
+four-is s =
+    from-four _ _ _ _ ∙ rw (append-nil, listed-is s 0 (omega arith), listed-is s 1 (omega arith), listed-is s 2 (omega arith), listed-is s 3 (omega arith))
 
 -- so Read Indexes returns the count of them, and then them
 indexes-is : (s : Octets) → readIndexes (decode s .plain) ≡ le16 (length (four s)) ++ words (four s)
@@ -193,7 +205,8 @@ count-first (a ∷ b ∷ d) n x h =
     p ∙ sym (write-split (a ∷ b ∷ d) 0 (le16 n) x ∙ q)
 
 -- one index behind the others
-next-index : (d : Octets) (at : ℕ) (l m : List ℕ) (k : ℕ) → k ≡ at + length (words l) → writeAt (writeAt d at (words l)) k (words m) ≡ writeAt d at (words (l ++ m))
+next-index : (d : Octets) (at : ℕ) (l m : List ℕ) (k : ℕ) → k ≡ at + length (words l)
+    → writeAt (writeAt d at (words l)) k (words m) ≡ writeAt d at (words (l ++ m))
 next-index d at l m k e = rw e (sym (rw (words-append l m) (write-split d at (words l) (words m))))
 
 -- half of the octets
@@ -221,7 +234,8 @@ indexes-put s d d0 d1 d2 d3 d4 a b c e n two ea w0 eb w1 ec w2 ee w3 en w4 =
     let k3 = length-words l3 in
     let m1 : length (words (l0 ++ l1)) ≡ length (words l0) + length (words l1) = rw (words-append l0 l1, length-append) in
     let m2 : length (words ((l0 ++ l1) ++ l2)) ≡ length (words (l0 ++ l1)) + length (words l2) = rw (words-append (l0 ++ l1) l2, length-append) in
-    let m3 : length (words (((l0 ++ l1) ++ l2) ++ l3)) ≡ length (words ((l0 ++ l1) ++ l2)) + length (words l3) = rw (words-append ((l0 ++ l1) ++ l2) l3, length-append) in
+    let m3 : length (words (((l0 ++ l1) ++ l2) ++ l3)) ≡ length (words ((l0 ++ l1) ++ l2)) + length (words l3) = rw
+    (words-append ((l0 ++ l1) ++ l2) l3, length-append) in
     let m4 = length-words (((l0 ++ l1) ++ l2) ++ l3) in
     let x1 : d1 ≡ writeAt d 2 (words (l0 ++ l1)) = w1 ∙ rw w0 (next-index d 2 l0 l1 a ea) in
     let x2 : d2 ≡ writeAt d 2 (words ((l0 ++ l1) ++ l2)) = w2 ∙ rw x1 (next-index d 2 (l0 ++ l1) l2 b (omega arith)) in

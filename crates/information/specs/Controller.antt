@@ -16,4 +16,5 @@ unfoldable pub informationOf : Controller → Octets
 informationOf c =
     c .radio .hardware .publicAddress
     ++ (c .radio .hardware .version
-    ∷ (le16 (c .radio .hardware .manufacturer) ++ (le32 (c .radio .hardware .supported) ++ (le32 (currentSettings (settingsOf c)) ++ (classOf (c .host) ++ c .host .name)))))
+    ∷ (le16 (c .radio .hardware .manufacturer) ++ (le32
+    (c .radio .hardware .supported) ++ (le32 (currentSettings (settingsOf c)) ++ (classOf (c .host) ++ c .host .name)))))

@@ -3,19 +3,24 @@ ghost use mathlib.Core.Path.{_≡_};
 ghost use mathlib.Core.Bool.{true};
 ghost use Prim.Native.Nat.{_+_, _≤_};
 ghost use lib.ListN.{length};
+ghost use Rattle.model.specs.Codes as Codes;
+ghost use Rattle.model.specs.Lengths as Lengths;
 ghost use Rattle.model.specs.Commands.{readVersion, readCommands, readIndexes, words};
 ghost use Rattle.model.specs.Layout.{decode};
 ghost use Rattle.model.specs.Meanings.{stateOk};
 ghost use Rattle.octets.specs.Parts.{writeAt};
 ghost use Rattle.replies.specs.Answers.{Gives};
-ghost use Rattle.outcomes.specs.Outcomes.{general};
+ghost use Rattle.outcomes.specs.Outcomes.{generalCommand};
 ghost use Rattle.information.specs.General.{Reply, listed};
 ghost use Rattle.information.specs.Controller.{informationHead, informationOf};
 ghost use Rattle.model.specs.Immediate.{readInformation, setLocalName};
 ghost use Rattle.layout.specs.Places.{Ready, controllerOf};
-ghost use Rattle.outcomes.specs.Outcomes.{named, served};
+ghost use Rattle.outcomes.specs.Outcomes.{nameRead, immediateCommand};
 use model::Answer;
 use model::Hardware;
+use model::codes;
+use model::events;
+use model::statuses;
 
 // What Read Commands returns: the counts, 19 and 10, then the codes of the commands and of the events, two octets each.
 const COMMANDS: [u8; 62] = [
@@ -85,7 +90,7 @@ const COMMANDS: [u8; 62] = [
 
 // A general command whose return parameters are `body`: the index is 0xFFFF and there are no parameters, else it is refused.
 fn general_reply(index: u64, code: u64, ps: &[u8], body: &[u8], reply: &mut [u8]) -> Answer
-    requires { ⌜ (1024 ≤ length (now reply)) × (length (now body) ≤ 1000) ⌝ }
+    requires { ⌜ (Lengths.replyBuffer ≤ length (now reply)) × (length (now body) ≤ 1000) ⌝ }
     ensures { λ r. ⌜ Reply index code (now (ps .entry)) (now (body .entry)) r (now (reply .entry)) (now (reply .exit)) ⌝ }
 {
     if index == 0xFFFF {
@@ -93,33 +98,42 @@ fn general_reply(index: u64, code: u64, ps: &[u8], body: &[u8], reply: &mut [u8]
             replies::command_complete(reply, 0, index, code, 0, body);
             return Answer::Done(9 + body.len());
         }
-        return replies::refuse(reply, index, code, 0x0D);
+        return replies::refuse(reply, index, code, statuses::INVALID_PARAMETERS);
     }
-    replies::refuse(reply, index, code, 0x11)
+    replies::refuse(reply, index, code, statuses::INVALID_INDEX)
 }
 
 // 0x0001 Read Version: version 1, revision 10.
 pub fn read_version(state: &[u8], index: u64, ps: &[u8], reply: &mut [u8]) -> Answer
-    requires { ⌜ (stateOk (now state) ≡ true) × (1024 ≤ length (now reply)) ⌝ }
-    ensures { λ r. ⌜ Gives (general (now (state .entry)) index 1 (now (ps .entry)) readVersion) r (now (reply .entry)) (now (reply .exit)) (now (state .entry)) ⌝ }
+    requires { ⌜ (stateOk (now state) ≡ true) × (Lengths.replyBuffer ≤ length (now reply)) ⌝ }
+    ensures { λ r. ⌜
+        Gives (generalCommand (now (state .entry)) index Codes.readVersion (now (ps .entry)) readVersion) r (now (reply .entry)) (now (reply .exit))
+        (now (state .entry))
+        ⌝ }
 {
     let body: [u8; 3] = [1, 10, 0];
-    general_reply(index, 0x0001, ps, &body, reply)
+    general_reply(index, codes::READ_VERSION, ps, &body, reply)
 }
 
 // 0x0002 Read Commands: 19 commands and 10 events, then their codes, two octets each.
 pub fn read_commands(state: &[u8], index: u64, ps: &[u8], reply: &mut [u8]) -> Answer
-    requires { ⌜ (stateOk (now state) ≡ true) × (1024 ≤ length (now reply)) ⌝ }
-    ensures { λ r. ⌜ Gives (general (now (state .entry)) index 2 (now (ps .entry)) readCommands) r (now (reply .entry)) (now (reply .exit)) (now (state .entry)) ⌝ }
+    requires { ⌜ (stateOk (now state) ≡ true) × (Lengths.replyBuffer ≤ length (now reply)) ⌝ }
+    ensures { λ r. ⌜
+        Gives (generalCommand (now (state .entry)) index Codes.readCommands (now (ps .entry)) readCommands) r (now (reply .entry)) (now (reply .exit))
+        (now (state .entry))
+        ⌝ }
 {
     let body = COMMANDS;
-    general_reply(index, 0x0002, ps, &body, reply)
+    general_reply(index, codes::READ_COMMANDS, ps, &body, reply)
 }
 
 // Writes index i at the place `at` if it holds a controller. Returns the place behind.
 fn list_index(state: &[u8], i: u64, out: &mut [u8], at: usize) -> usize
-    requires { ⌜ (length (now state) ≡ 16116) × (at + 2 ≤ length (now out)) ⌝ }
-    ensures { λ r. ⌜ (r ≡ at + length (words (listed (now (state .entry)) i))) × (r ≤ at + 2) × (now (out .exit) ≡ writeAt (now (out .entry)) at (words (listed (now (state .entry)) i))) ⌝ }
+    requires { ⌜ (length (now state) ≡ Lengths.state) × (at + 2 ≤ length (now out)) ⌝ }
+    ensures { λ r. ⌜
+        (r ≡ at + length (words (listed (now (state .entry)) i))) × (r ≤ at + 2)
+        × (now (out .exit) ≡ writeAt (now (out .entry)) at (words (listed (now (state .entry)) i)))
+        ⌝ }
 {
     if layout::present(state, i) {
         octets::put16(out, at, i);
@@ -130,8 +144,11 @@ fn list_index(state: &[u8], i: u64, out: &mut [u8], at: usize) -> usize
 
 // Writes the count of the present indexes and the indexes, ascending. Returns the count of octets.
 fn list_indexes(state: &[u8], out: &mut [u8]) -> usize
-    requires { ⌜ (length (now state) ≡ 16116) × (length (now out) ≡ 10) ⌝ }
-    ensures { λ r. ⌜ (r ≡ length (readIndexes (decode (now (state .entry)) .plain))) × (r ≤ 10) × (now (out .exit) ≡ writeAt (now (out .entry)) 0 (readIndexes (decode (now (state .entry)) .plain))) ⌝ }
+    requires { ⌜ (length (now state) ≡ Lengths.state) × (length (now out) ≡ 10) ⌝ }
+    ensures { λ r. ⌜
+        (r ≡ length (readIndexes (decode (now (state .entry)) .plain))) × (r ≤ 10)
+        × (now (out .exit) ≡ writeAt (now (out .entry)) 0 (readIndexes (decode (now (state .entry)) .plain)))
+        ⌝ }
 {
     let a = list_index(state, 0, out, 2);
     let b = list_index(state, 1, out, a);
@@ -143,43 +160,64 @@ fn list_indexes(state: &[u8], out: &mut [u8]) -> usize
 
 // 0x0003 Read Indexes: the indexes that hold a controller, ascending.
 pub fn read_indexes(state: &[u8], index: u64, ps: &[u8], reply: &mut [u8]) -> Answer
-    requires { ⌜ (stateOk (now state) ≡ true) × (1024 ≤ length (now reply)) ⌝ }
-    ensures { λ r. ⌜ Gives (general (now (state .entry)) index 3 (now (ps .entry)) readIndexes) r (now (reply .entry)) (now (reply .exit)) (now (state .entry)) ⌝ }
+    requires { ⌜ (stateOk (now state) ≡ true) × (Lengths.replyBuffer ≤ length (now reply)) ⌝ }
+    ensures { λ r. ⌜
+        Gives (generalCommand (now (state .entry)) index Codes.readIndexes (now (ps .entry)) readIndexes) r (now (reply .entry)) (now (reply .exit))
+        (now (state .entry))
+        ⌝ }
 {
     let mut body: [u8; 10] = [0; 10];
     let n = list_indexes(state, &mut body);
-    general_reply(index, 0x0003, ps, &body[..n], reply)
+    general_reply(index, codes::READ_INDEXES, ps, &body[..n], reply)
 }
 
 // 0x000F Set Local Name: name and short name, each with a zero at its end. Local Name Changed only if an octet changed.
 pub fn set_local_name(state: &mut [u8], index: u64, ps: &[u8], reply: &mut [u8]) -> Answer
-    requires { ⌜ Ready (now state) index × (1024 ≤ length (now reply)) ⌝ }
-    ensures { λ r. ⌜ Gives (served (now (state .entry)) index 15 (now (ps .entry)) setLocalName) r (now (reply .entry)) (now (reply .exit)) (now (state .exit)) ⌝ }
+    requires { ⌜ Ready (now state) index × (Lengths.replyBuffer ≤ length (now reply)) ⌝ }
+    ensures { λ r. ⌜
+        Gives (immediateCommand (now (state .entry)) index Codes.setLocalName (now (ps .entry)) setLocalName) r (now (reply .entry))
+        (now (reply .exit)) (now (state .exit))
+        ⌝ }
 {
     if ps.len() != 260 {
-        return replies::refuse(reply, index, 0x000F, 0x0D);
+        return replies::refuse(
+            reply,
+            index,
+            codes::SET_LOCAL_NAME,
+            statuses::INVALID_PARAMETERS,
+        );
     }
     if ps[248] != 0 {
-        return replies::refuse(reply, index, 0x000F, 0x0D);
+        return replies::refuse(
+            reply,
+            index,
+            codes::SET_LOCAL_NAME,
+            statuses::INVALID_PARAMETERS,
+        );
     }
     if ps[259] != 0 {
-        return replies::refuse(reply, index, 0x000F, 0x0D);
+        return replies::refuse(
+            reply,
+            index,
+            codes::SET_LOCAL_NAME,
+            statuses::INVALID_PARAMETERS,
+        );
     }
     let place = layout::name_place(index);
     let kept = octets::same_part(ps, 0, state, place, 260);
     layout::put_name(state, index, ps);
-    replies::command_complete(reply, 0, index, 0x000F, 0, ps);
+    replies::command_complete(reply, 0, index, codes::SET_LOCAL_NAME, 0, ps);
     if kept {
         return Answer::Done(269);
     }
-    replies::event(reply, 269, 0x0008, index, ps);
+    replies::event(reply, 269, events::LOCAL_NAME_CHANGED, index, ps);
     Answer::Done(535)
 }
 
 // The name of the controller at an index, 0, or its short name, 1, as far as it is used: the one copy is that into the reply.
 pub fn tell_name(state: &[u8], index: u64, which: u64, reply: &mut [u8]) -> Answer
-    requires { ⌜ (stateOk (now state) ≡ true) × (1024 ≤ length (now reply)) ⌝ }
-    ensures { λ r. ⌜ Gives (named (now (state .entry)) index which) r (now (reply .entry)) (now (reply .exit)) (now (state .entry)) ⌝ }
+    requires { ⌜ (stateOk (now state) ≡ true) × (Lengths.replyBuffer ≤ length (now reply)) ⌝ }
+    ensures { λ r. ⌜ Gives (nameRead (now (state .entry)) index which) r (now (reply .entry)) (now (reply .exit)) (now (state .entry)) ⌝ }
 {
     if layout::present(state, index) {
         if which < 2 {
@@ -195,16 +233,15 @@ pub fn tell_name(state: &[u8], index: u64, which: u64, reply: &mut [u8]) -> Answ
 fn information_head(f: Hardware, current: u64, hints: u8) -> [u8; 14]
     ensures { λ r. ⌜ r ≡ informationHead f current hints ⌝ }
 {
-    let m = f.manufacturer;
-    let n = f.supported;
+    let h = layout::hardware_head(f);
     [
-        f.version,
-        (m % 256) as u8,
-        (m / 256 % 256) as u8,
-        (n % 256) as u8,
-        (n / 256 % 256) as u8,
-        (n / 65536 % 256) as u8,
-        (n / 16777216 % 256) as u8,
+        h[0],
+        h[1],
+        h[2],
+        h[3],
+        h[4],
+        h[5],
+        h[6],
         (current % 256) as u8,
         (current / 256 % 256) as u8,
         (current / 65536 % 256) as u8,
@@ -235,14 +272,22 @@ fn put_information(state: &[u8], index: u64, out: &mut [u8])
 
 // 0x0004 Read Controller Information, 280 octets; the state is only read.
 pub fn read_information(state: &[u8], index: u64, ps: &[u8], reply: &mut [u8]) -> Answer
-    requires { ⌜ Ready (now state) index × (1024 ≤ length (now reply)) ⌝ }
-    ensures { λ r. ⌜ Gives (served (now (state .entry)) index 4 (now (ps .entry)) readInformation) r (now (reply .entry)) (now (reply .exit)) (now (state .entry)) ⌝ }
+    requires { ⌜ Ready (now state) index × (Lengths.replyBuffer ≤ length (now reply)) ⌝ }
+    ensures { λ r. ⌜
+        Gives (immediateCommand (now (state .entry)) index Codes.readInformation (now (ps .entry)) readInformation) r (now (reply .entry))
+        (now (reply .exit)) (now (state .entry))
+        ⌝ }
 {
     if ps.len() != 0 {
-        return replies::refuse(reply, index, 0x0004, 0x0D);
+        return replies::refuse(
+            reply,
+            index,
+            codes::READ_INFORMATION,
+            statuses::INVALID_PARAMETERS,
+        );
     }
     let mut body: [u8; 280] = [0; 280];
     put_information(state, index, &mut body);
-    replies::command_complete(reply, 0, index, 0x0004, 0, &body);
+    replies::command_complete(reply, 0, index, codes::READ_INFORMATION, 0, &body);
     Answer::Done(289)
 }

@@ -8,10 +8,12 @@ use mathlib.Core.Option.{none, some}
 use lib.ListN.{length, getD, drop}
 use lib.Dec.{eqb, leb, ltb}
 use borrow.Author.Tests.{eq-eqb, lt-ltb, le-ltb, ltb-true, ltb-false, le-leb, lt-leb}
+use Rattle.model.specs.Statuses as Statuses
+use Rattle.model.specs.Lengths as Lengths
 use Rattle.model.specs.declared.Hardware.{Hardware}
 use Rattle.model.specs.Octets.{Octets, octet, u16, commandComplete, commandStatus}
 use Rattle.model.specs.State.{Controller, withHost, withTable}
-use Rattle.model.specs.Reasons.{Reason, Check, _⇒_, firstOf, nothing, passes, statusOf, countAbove32, debugFlagAbove1}
+use Rattle.model.specs.Reasons.{Reason, Check, refusedIf, firstOf, noReason, passes, statusOf, countAbove32, debugFlagAbove1}
 use Rattle.model.specs.Tables.{chop, loaded, tableRules, leAddressChecks, linkKeyRule, longTermKeyRule, identityKeyRule, needsBredr, needsLe}
 use Rattle.model.specs.Rules.{refuse, done}
 use Rattle.model.specs.Immediate.{KeyList, listChecks, loadKeys, unless, linkKeyList, longTermKeyList, identityKeyList}
@@ -26,11 +28,11 @@ use Rattle.layout.proofs.Tables.{table-fits, table-stored}
 use Rattle.replies.specs.Answers.{Gives}
 use Rattle.model.specs.declared.Answer.{Answer}
 use Rattle.model.specs.declared.Answer.the-variants.{Done, Refused}
-use Rattle.outcomes.specs.Outcomes.{served}
-use Rattle.outcomes.proofs.Endings.{served-length, served-status, served-done}
+use Rattle.outcomes.specs.Outcomes.{immediateCommand}
+use Rattle.outcomes.proofs.Endings.{immediate-length, immediate-status, immediate-done}
 use Rattle.lists.specs.Lists.{valueChecks}
 use Rattle.keys.specs.Lists.{keyList, ListOf}
-use Rattle.keys.proofs.Checks.{Statuses, FailsWith, fails-with, values-status, first-fails, first-holds, passes-none, append-fails, append-passes}
+use Rattle.keys.proofs.Checks.{AllOfStatus, FailsWith, fails-with, values-status, first-fails, first-holds, passes-none, append-fails, append-passes}
 use Rattle.model.specs.Proof.Room.{length-complete}
 
 -- 1. The three lists ------------------------------------------------------------------------------------------------------------------------------
@@ -54,24 +56,24 @@ rule-is (suc (suc (suc zero))) a b = refl
 rule-is (suc (suc (suc (suc k)))) a b = absurd (omega arith)
 
 -- what stands before the count: Invalid Parameters
-head-status : (k : ℕ) (ps : Octets) → Statuses 0x0D (keyList k .headChecks ps)
-unfolding keyList linkKeyList longTermKeyList identityKeyList Statuses statusOf
+head-status : (k : ℕ) (ps : Octets) → AllOfStatus Statuses.invalidParameters (keyList k .headChecks ps)
+unfolding keyList linkKeyList longTermKeyList identityKeyList AllOfStatus statusOf
 head-status zero ps = (refl, tt)
 head-status (suc zero) ps = (refl, tt)
 head-status (suc (suc zero)) ps = tt
 head-status (suc (suc (suc k))) ps = tt
 
 -- the values of a record: Invalid Parameters
-record-status : (k : ℕ) (x : Octets) → Statuses 0x0D (keyList k .rule .checks x)
-unfolding keyList linkKeyList longTermKeyList identityKeyList linkKeyRule longTermKeyRule identityKeyRule leAddressChecks Statuses statusOf
+record-status : (k : ℕ) (x : Octets) → AllOfStatus Statuses.invalidParameters (keyList k .rule .checks x)
+unfolding keyList linkKeyList longTermKeyList identityKeyList linkKeyRule longTermKeyRule identityKeyRule leAddressChecks AllOfStatus statusOf
 record-status zero x = (refl, (refl, tt))
 record-status (suc zero) x = (refl, (refl, tt))
 record-status (suc (suc zero)) x = (refl, (refl, (refl, (refl, (refl, tt)))))
 record-status (suc (suc (suc k))) x = (refl, (refl, tt))
 
 -- support: Not Supported
-support-status : (k : ℕ) (f : Hardware) → Statuses 0x0C (keyList k .rule .support f)
-unfolding keyList linkKeyList longTermKeyList identityKeyList linkKeyRule longTermKeyRule identityKeyRule needsBredr needsLe Statuses statusOf
+support-status : (k : ℕ) (f : Hardware) → AllOfStatus Statuses.notSupported (keyList k .rule .support f)
+unfolding keyList linkKeyList longTermKeyList identityKeyList linkKeyRule longTermKeyRule identityKeyRule needsBredr needsLe AllOfStatus statusOf
 support-status zero f = (refl, tt)
 support-status (suc zero) f = (refl, tt)
 support-status (suc (suc zero)) f = (refl, tt)
@@ -81,17 +83,17 @@ support-status (suc (suc (suc k))) f = (refl, tt)
 
 module _ (l : KeyList) (f : Hardware) (ps : Octets) (n : ℕ) (rs : List Octets) where
   -- the checks are count, head, values and support
-  checks-are : listChecks l f ps n rs ≡ (ltb 32 n ⇒ countAbove32) ∷ (l .headChecks ps ++ (valueChecks (l .rule) rs ++ l .rule .support f))
+  checks-are : listChecks l f ps n rs ≡ (refusedIf (ltb 32 n) countAbove32) ∷ (l .headChecks ps ++ (valueChecks (l .rule) rs ++ l .rule .support f))
   unfolding listChecks valueChecks
   checks-are = rw append-assoc
 
   -- a count above 32 is the first to fail
   count-fails : 32 < n → firstOf (listChecks l f ps n rs) ≡ some countAbove32
-  count-fails h = rw checks-are (first-fails (ltb 32 n ⇒ countAbove32) _ (lt-ltb 32 n h))
+  count-fails h = rw checks-are (first-fails (refusedIf (ltb 32 n) countAbove32) _ (lt-ltb 32 n h))
 
   -- with a count of at most 32 the checks of head, values and support tell
   past-count : n ≤ 32 → firstOf (listChecks l f ps n rs) ≡ firstOf (l .headChecks ps ++ (valueChecks (l .rule) rs ++ l .rule .support f))
-  past-count h = rw checks-are (first-holds (ltb 32 n ⇒ countAbove32) _ (le-ltb 32 n h))
+  past-count h = rw checks-are (first-holds (refusedIf (ltb 32 n) countAbove32) _ (le-ltb 32 n h))
 
   -- then the head tells, where it fails
   head-fails : (status : ℕ) → n ≤ 32 → FailsWith (l .headChecks ps) status → FailsWith (listChecks l f ps n rs) status
@@ -102,11 +104,14 @@ module _ (l : KeyList) (f : Hardware) (ps : Octets) (n : ℕ) (rs : List Octets)
   past-head h e = past-count h ∙ append-passes (l .headChecks ps) _ (passes-none (l .headChecks ps) e)
 
   -- then the values tell, where one fails
-  values-fail : (status : ℕ) → n ≤ 32 → passes (l .headChecks ps) ≡ true → FailsWith (valueChecks (l .rule) rs) status → FailsWith (listChecks l f ps n rs) status
-  values-fail status h e x = record { reason = x .reason; first = past-head h e ∙ append-fails (valueChecks (l .rule) rs) _ (x .reason) (x .first); told = x .told }
+  values-fail : (status : ℕ) → n ≤ 32 → passes (l .headChecks ps) ≡ true → FailsWith (valueChecks (l .rule) rs) status
+      → FailsWith (listChecks l f ps n rs) status
+  values-fail status h e x =
+      record { reason = x .reason; first = past-head h e ∙ append-fails (valueChecks (l .rule) rs) _ (x .reason) (x .first); told = x .told }
 
   -- past the values, support tells
-  past-values : n ≤ 32 → passes (l .headChecks ps) ≡ true → passes (valueChecks (l .rule) rs) ≡ true → firstOf (listChecks l f ps n rs) ≡ firstOf (l .rule .support f)
+  past-values : n ≤ 32 → passes (l .headChecks ps) ≡ true → passes (valueChecks (l .rule) rs) ≡ true
+      → firstOf (listChecks l f ps n rs) ≡ firstOf (l .rule .support f)
   past-values h e v = past-head h e ∙ append-passes (valueChecks (l .rule) rs) _ (passes-none (valueChecks (l .rule) rs) v)
 
 -- 3. What the model's rule does with a list -----------------------------------------------------------------------------------------------------------
@@ -125,7 +130,8 @@ unfolding loadKeys unless
 act-refuses l i c ps x e = rw e
 
 -- a list whose checks all pass is loaded: no return parameters, no events, the table's old records gone
-act-loads : (l : KeyList) (i : ℕ) (c : Controller) (ps : Octets) → firstOf (checksOf l c ps) ≡ none → loadKeys l .act i c ps ≡ done [] [] (withTable (c .host) (l .table) (loaded (recordsOf l ps)))
+act-loads : (l : KeyList) (i : ℕ) (c : Controller) (ps : Octets) → firstOf (checksOf l c ps) ≡ none
+    → loadKeys l .act i c ps ≡ done [] [] (withTable (c .host) (l .table) (loaded (recordsOf l ps)))
 unfolding loadKeys unless
 act-loads l i c ps e = rw e
 
@@ -141,7 +147,8 @@ pub list-inside : (k at n : ℕ) (fine : Bool) (ps : Octets) → ListOf k at fin
 list-inside k at n fine ps g en = rw en (omega (arith, g .long))
 
 -- and the table in the state
-pub load-room : (i k place size : ℕ) (s : Octets) → length s ≡ 16116 → i < 4 → k < 6 → place ≡ tablePlace i k → size ≡ ruleAt k .size → place + (4 + size * 32) ≤ length s
+pub load-room : (i k place size : ℕ) (s : Octets) → length s ≡ Lengths.state → i < 4 → k < 6 → place ≡ tablePlace i k → size ≡ ruleAt k .size
+    → place + (4 + size * 32) ≤ length s
 load-room i k place size s l h m ep ez = rw (ep, ez, l) (table-fits i k h m)
 
 -- no return parameters
@@ -149,7 +156,8 @@ no-parameters : (i code : ℕ) (ps : Octets) → commandComplete i code 0 (part 
 unfolding part
 no-parameters i code ps = rw append-nil
 
-module _ (s : Octets) (i code k at n : ℕ) (fine : Bool) (ps d d′ : Octets) (r : Answer) (given : Ready s i) (big : 1024 ≤ length d) (g : ListOf k at fine ps) (en : n ≡ u16 ps at) where
+module _ (s : Octets) (i code k at n : ℕ) (fine : Bool) (ps d d′ : Octets) (r : Answer) (given : Ready s i) (big : Lengths.replyBuffer ≤ length d)
+    (g : ListOf k at fine ps) (en : n ≡ u16 ps at) where
   -- the controller that the list is for
   abbrev here : Controller
   here = controllerOf s i
@@ -168,23 +176,31 @@ module _ (s : Octets) (i code k at n : ℕ) (fine : Bool) (ps d d′ : Octets) (
 
   -- where the checks fail with a status, the answer is Command Status with it, and the state stays
   refuses : (status : ℕ) → FailsWith (checksOf (keyList k) here ps) status → r ≡ Refused 9 → d′ ≡ writeAt d 0 (commandStatus i code status)
-      → Gives (served s i code ps (loadKeys (keyList k))) r d d′ s
+      → Gives (immediateCommand s i code ps (loadKeys (keyList k))) r d d′ s
   unfolding loadKeys
   refuses status x m w =
-      served-status s i code ps (loadKeys (keyList k)) d d′ r given big (list-sized k at fine ps g) (x .reason) refl
+      immediate-status s i code ps (loadKeys (keyList k)) d d′ r given big (list-sized k at fine ps g) (x .reason) refl
       (act-refuses (keyList k) i here ps (x .reason) (x .first)) m (rw (x .told) w)
 
   -- a count above 32: No Resources
-  pub count-refuses : 32 < n → r ≡ Refused 9 → d′ ≡ writeAt d 0 (commandStatus i code 0x07) → Gives (served s i code ps (loadKeys (keyList k))) r d d′ s
+  pub count-refuses : 32 < n → r ≡ Refused 9 → d′ ≡ writeAt d 0 (commandStatus i code Statuses.noResources)
+      → Gives (immediateCommand s i code ps (loadKeys (keyList k))) r d d′ s
   unfolding statusOf
   count-refuses h m w =
-      refuses 0x07 (record { reason = countAbove32; first = count-fails (keyList k) (here .radio .hardware) ps (u16 ps (keyList k .countAt)) (recordsOf (keyList k) ps) (rw count-is h); told = refl }) m w
+      refuses Statuses.noResources (record {
+        reason = countAbove32;
+        first = count-fails (keyList k) (here .radio .hardware) ps
+            (u16 ps (keyList k .countAt)) (recordsOf (keyList k) ps) (rw count-is h);
+        told = refl;
+      }) m w
 
   -- the head fails: Invalid Parameters
-  pub head-refuses : n ≤ 32 → fine ≡ false → r ≡ Refused 9 → d′ ≡ writeAt d 0 (commandStatus i code 0x0D) → Gives (served s i code ps (loadKeys (keyList k))) r d d′ s
+  pub head-refuses : n ≤ 32 → fine ≡ false → r ≡ Refused 9 → d′ ≡ writeAt d 0 (commandStatus i code Statuses.invalidParameters)
+      → Gives (immediateCommand s i code ps (loadKeys (keyList k))) r d d′ s
   head-refuses h e m w =
-      refuses 0x0D (head-fails (keyList k) (here .radio .hardware) ps (u16 ps (keyList k .countAt)) (recordsOf (keyList k) ps) 0x0D (rw count-is h)
-      (fails-with 0x0D (keyList k .headChecks ps) (head-status k ps) (sym (g .head) ∙ e))) m w
+      refuses Statuses.invalidParameters (head-fails (keyList k) (here .radio .hardware) ps (u16 ps (keyList k .countAt)) (recordsOf (keyList k) ps)
+      Statuses.invalidParameters (rw count-is h)
+      (fails-with Statuses.invalidParameters (keyList k .headChecks ps) (head-status k ps) (sym (g .head) ∙ e))) m w
 
   -- the head is fine: the model's checks of it pass
   head-passes : fine ≡ true → passes (keyList k .headChecks ps) ≡ true
@@ -196,57 +212,66 @@ module _ (s : Octets) (i code k at n : ℕ) (fine : Bool) (ps d d′ : Octets) (
 
   -- a value fails or a record is repeated: Invalid Parameters
   pub values-refuse : n ≤ 32 → fine ≡ true → (v : Bool) → v ≡ passes (valueChecks (ruleAt k) list) → v ≡ false → r ≡ Refused 9
-      → d′ ≡ writeAt d 0 (commandStatus i code 0x0D) → Gives (served s i code ps (loadKeys (keyList k))) r d d′ s
+      → d′ ≡ writeAt d 0 (commandStatus i code Statuses.invalidParameters) → Gives (immediateCommand s i code ps (loadKeys (keyList k))) r d d′ s
   values-refuse h e v ev f m w =
-      refuses 0x0D (values-fail (keyList k) (here .radio .hardware) ps (u16 ps (keyList k .countAt)) (recordsOf (keyList k) ps) 0x0D (rw count-is h) (head-passes e)
-      (fails-with 0x0D (valueChecks (keyList k .rule) (recordsOf (keyList k) ps)) (values-status (keyList k .rule) (record-status k) (recordsOf (keyList k) ps)) (values-are v ev ∙ f))) m w
+      refuses Statuses.invalidParameters (values-fail (keyList k) (here .radio .hardware) ps (u16 ps (keyList k .countAt)) (recordsOf (keyList k) ps)
+      Statuses.invalidParameters (rw count-is h) (head-passes e)
+      (fails-with Statuses.invalidParameters (valueChecks (keyList k .rule) (recordsOf (keyList k) ps))
+      (values-status (keyList k .rule) (record-status k) (recordsOf (keyList k) ps)) (values-are v ev ∙ f))) m w
 
   -- the values are fine: support tells
-  module _ (h : n ≤ 32) (e : fine ≡ true) (v : Bool) (ev : v ≡ passes (valueChecks (ruleAt k) list)) (good : v ≡ true) (f : Hardware) (ef : f ≡ here .radio .hardware) (q : Bool)
+  module _ (h : n ≤ 32) (e : fine ≡ true) (v : Bool) (ev : v ≡ passes (valueChecks (ruleAt k) list)) (good : v ≡ true) (f : Hardware)
+      (ef : f ≡ here .radio .hardware) (q : Bool)
       (eq : (x : Hardware) → x .supported ≡ f .supported → q ≡ passes (ruleAt k .support x)) where
     -- so the first check that fails is one of support, if any does
     past : firstOf (checksOf (keyList k) here ps) ≡ firstOf (keyList k .rule .support (here .radio .hardware))
-    past = past-values (keyList k) (here .radio .hardware) ps (u16 ps (keyList k .countAt)) (recordsOf (keyList k) ps) (rw count-is h) (head-passes e) (values-are v ev ∙ good)
+    past =
+        past-values (keyList k) (here .radio .hardware) ps (u16 ps (keyList k .countAt)) (recordsOf (keyList k) ps) (rw count-is h) (head-passes e)
+        (values-are v ev ∙ good)
 
     -- they pass exactly if the code found support
     support-is : passes (keyList k .rule .support (here .radio .hardware)) ≡ q
     support-is = rw (rule-is k (g .least) (g .most)) (sym (eq (here .radio .hardware) (rw ef)))
 
     -- no support: Not Supported
-    pub support-refuses : q ≡ false → r ≡ Refused 9 → d′ ≡ writeAt d 0 (commandStatus i code 0x0C) → Gives (served s i code ps (loadKeys (keyList k))) r d d′ s
+    pub support-refuses : q ≡ false → r ≡ Refused 9 → d′ ≡ writeAt d 0 (commandStatus i code Statuses.notSupported)
+        → Gives (immediateCommand s i code ps (loadKeys (keyList k))) r d d′ s
     support-refuses o m w =
-        let x = fails-with 0x0C (keyList k .rule .support (here .radio .hardware)) (support-status k (here .radio .hardware)) (support-is ∙ o) in
-        refuses 0x0C (record { reason = x .reason; first = past ∙ x .first; told = x .told }) m w
+        let x = fails-with Statuses.notSupported (keyList k .rule .support (here .radio .hardware)) (support-status k (here .radio .hardware))
+        (support-is ∙ o) in
+        refuses Statuses.notSupported (record { reason = x .reason; first = past ∙ x .first; told = x .told }) m w
 
     -- all checks pass: the list is in its table, and the answer is Command Complete
     pub list-loads : q ≡ true → (s′ : Octets) (place size : ℕ) → place ≡ tablePlace i k → size ≡ ruleAt k .size
         → s′ ≡ writeAt s place (region size (loaded (chop size n (drop (at + 2) ps)))) → r ≡ Done 9 → d′ ≡ writeAt d 0 (commandComplete i code 0 (part ps 0 0))
-        → Gives (served s i code ps (loadKeys (keyList k))) r d d′ s′
+        → Gives (immediateCommand s i code ps (loadKeys (keyList k))) r d d′ s′
     list-loads o s′ place size ep ez es m w =
         let a = act-loads (keyList k) i here ps (past ∙ passes-none (keyList k .rule .support (here .radio .hardware)) (support-is ∙ o)) in
-        let b : loadKeys (keyList k) .act i here ps ≡ done [] [] (withTable (here .host) k (loaded list)) = a ∙ rw (records-are, table-is k (g .least) (g .most)) in
+        let b : loadKeys (keyList k) .act i here ps ≡ done [] [] (withTable (here .host) k (loaded list)) = a
+        ∙ rw (records-are, table-is k (g .least) (g .most)) in
         let long : length (loaded list) ≡ 32 = length-loaded list (rw (length-chop (ruleAt k .size) n (drop (at + 2) ps)) h) in
         let inside = list-inside k at n fine ps g en in
         let st : s′ ≡ encode (putController (decode s) i (withHost here (withTable (here .host) k (loaded list)))) =
         es ∙ rw (ep, ez) (table-stored s i given k (omega (arith, g .most)) (loaded list) long (sized-loaded (ruleAt k .size) n ps (at + 2) inside)) in
-        served-done s i code ps (loadKeys (keyList k)) d d′ r given big (list-sized k at fine ps g) s′ [] [] (withTable (here .host) k (loaded list)) 9 b m
+        immediate-done s i code ps (loadKeys (keyList k)) d d′ r given big (list-sized k at fine ps g) s′ [] [] (withTable (here .host) k (loaded list)) 9 b m
         (rw append-nil (length-complete i code 0 [])) (omega arith) (w ∙ rw (no-parameters i code ps)) st
 
 -- 5. The three commands ---------------------------------------------------------------------------------------------------------------------------------
 
 -- a list of another length
-pub list-wrong : (s : Octets) (i code k at size : ℕ) (fits : Bool) (ps d d′ : Octets) (r : Answer) → Ready s i → 1024 ≤ length d → keyList k .countAt ≡ at → keyList k .rule .size ≡ size
-    → fits ≡ eqb (length ps) (at + 2 + size * u16 ps at) → fits ≡ false → r ≡ Refused 9 → d′ ≡ writeAt d 0 (commandStatus i code 0x0D)
-    → Gives (served s i code ps (loadKeys (keyList k))) r d d′ s
+pub list-wrong : (s : Octets) (i code k at size : ℕ) (fits : Bool) (ps d d′ : Octets) (r : Answer) → Ready s i → Lengths.replyBuffer ≤ length d
+    → keyList k .countAt ≡ at → keyList k .rule .size ≡ size
+    → fits ≡ eqb (length ps) (at + 2 + size * u16 ps at) → fits ≡ false → r ≡ Refused 9 → d′ ≡ writeAt d 0 (commandStatus i code Statuses.invalidParameters)
+    → Gives (immediateCommand s i code ps (loadKeys (keyList k))) r d d′ s
 unfolding loadKeys
-list-wrong s i code k at size fits ps d d′ r g big ea ez e f m w = served-length s i code ps (loadKeys (keyList k)) d d′ r g big (rw (ea, ez) (sym e ∙ f)) m w
+list-wrong s i code k at size fits ps d d′ r g big ea ez e f m w = immediate-length s i code ps (loadKeys (keyList k)) d d′ r g big (rw (ea, ez) (sym e ∙ f)) m w
 
 -- the debug flag is 0 or 1
-debug-is : (v : ℕ) → leb v 1 ≡ passes ((ltb 1 v ⇒ debugFlagAbove1) ∷ [])
-unfolding passes firstOf nothing
+debug-is : (v : ℕ) → leb v 1 ≡ passes ((refusedIf (ltb 1 v) debugFlagAbove1) ∷ [])
+unfolding passes firstOf noReason
 debug-is v = go (ltb 1 v) refl
   where
-    go : (b : Bool) → ltb 1 v ≡ b → leb v 1 ≡ nothing (elim b [ true ↦ some debugFlagAbove1 | false ↦ none ])
+    go : (b : Bool) → ltb 1 v ≡ b → leb v 1 ≡ noReason (elim b [ true ↦ some debugFlagAbove1 | false ↦ none ])
     go true e = lt-leb v 1 (ltb-true 1 v e)
     go false e = le-leb v 1 (ltb-false 1 v e)
 
@@ -254,19 +279,40 @@ debug-is v = go (ltb 1 v) refl
 pub link-list : (ps : Octets) (fits : Bool) → fits ≡ eqb (length ps) (1 + 2 + 25 * u16 ps 1) → fits ≡ true → ListOf 1 1 (leb (getD ps 0 0) 1) ps
 unfolding keyList linkKeyList ruleAt tableRules linkKeyRule octet
 link-list ps fits e f =
-    record { least = omega arith; most = omega arith; early = omega arith; place = refl; long = equal (length ps) (1 + 2 + 25 * u16 ps 1) (sym e ∙ f); head = debug-is (getD ps 0 0) }
+    record {
+      least = omega arith;
+      most = omega arith;
+      early = omega arith;
+      place = refl;
+      long = equal (length ps) (1 + 2 + 25 * u16 ps 1) (sym e ∙ f);
+      head = debug-is (getD ps 0 0);
+    }
 
 -- the same, of long term keys: nothing stands before the count
 pub long-term-list : (ps : Octets) (fits : Bool) → fits ≡ eqb (length ps) (0 + 2 + 36 * u16 ps 0) → fits ≡ true → ListOf 2 0 true ps
-unfolding keyList longTermKeyList ruleAt tableRules longTermKeyRule passes firstOf nothing
+unfolding keyList longTermKeyList ruleAt tableRules longTermKeyRule passes firstOf noReason
 long-term-list ps fits e f =
-    record { least = omega arith; most = omega arith; early = omega arith; place = refl; long = equal (length ps) (0 + 2 + 36 * u16 ps 0) (sym e ∙ f); head = refl }
+    record {
+      least = omega arith;
+      most = omega arith;
+      early = omega arith;
+      place = refl;
+      long = equal (length ps) (0 + 2 + 36 * u16 ps 0) (sym e ∙ f);
+      head = refl;
+    }
 
 -- the same, of identity keys
 pub identity-list : (ps : Octets) (fits : Bool) → fits ≡ eqb (length ps) (0 + 2 + 23 * u16 ps 0) → fits ≡ true → ListOf 3 0 true ps
-unfolding keyList identityKeyList ruleAt tableRules identityKeyRule passes firstOf nothing
+unfolding keyList identityKeyList ruleAt tableRules identityKeyRule passes firstOf noReason
 identity-list ps fits e f =
-    record { least = omega arith; most = omega arith; early = omega arith; place = refl; long = equal (length ps) (0 + 2 + 23 * u16 ps 0) (sym e ∙ f); head = refl }
+    record {
+      least = omega arith;
+      most = omega arith;
+      early = omega arith;
+      place = refl;
+      long = equal (length ps) (0 + 2 + 23 * u16 ps 0) (sym e ∙ f);
+      head = refl;
+    }
 
 -- the first octet of a link key list is there
 pub link-first : (ps : Octets) (fits : Bool) → fits ≡ eqb (length ps) (1 + 2 + 25 * u16 ps 1) → fits ≡ true → 0 < length ps

@@ -8,10 +8,14 @@ use lib.ListN.{length, getD, take, set, length-append}
 use lib.Seq.{getD-set-other, set-set, length-take-le}
 use lib.Dec.{ltb}
 use borrow.Author.Tests.{eq-eqb, ne-eqb, lt-ltb, le-ltb}
+use Rattle.model.specs.Statuses as Statuses
+use Rattle.model.specs.Codes as Codes
+use Rattle.model.specs.Events as Events
+use Rattle.model.specs.Lengths as Lengths
 use Rattle.model.specs.declared.Settings.{Settings}
 use Rattle.model.specs.Octets.{Octets, octet, event, commandComplete, commandStatus}
 use Rattle.model.specs.State.{Controller, Host, Hub, Table, settingsOf, tableOf, withController, withHost, withTable}
-use Rattle.model.specs.Reasons.{Reason, _⇒_, firstOf, statusOf, addressTypeAbove2, disconnectAbove1, unpowered, notPaired}
+use Rattle.model.specs.Reasons.{Reason, refusedIf, firstOf, statusOf, addressTypeAbove2, disconnectAbove1, unpowered, notPaired}
 use Rattle.model.specs.Tables.{begins, freed, holds}
 use Rattle.model.specs.Rules.{refuse, done}
 use Rattle.model.specs.Immediate.{unless, sized, anyKey, unpaired, unpairDevice}
@@ -32,8 +36,8 @@ use Rattle.replies.specs.Answers.{Gives}
 use Rattle.model.specs.declared.Answer.{Answer}
 use Rattle.model.specs.declared.Answer.the-variants.{Done, Refused}
 use Rattle.replies.proofs.Laws.{then, length-event}
-use Rattle.outcomes.specs.Outcomes.{served}
-use Rattle.outcomes.proofs.Endings.{served-length, served-address, served-done}
+use Rattle.outcomes.specs.Outcomes.{immediateCommand}
+use Rattle.outcomes.proofs.Endings.{immediate-length, immediate-address, immediate-done}
 use Rattle.keys.specs.Forget.{forgotten, Forgets}
 use Rattle.model.specs.Proof.Room.{length-complete}
 
@@ -69,7 +73,13 @@ module _ (s : Octets) (i k : ℕ) (ps : Octets) (place size : ℕ) (g : Ready s 
       table-changed c k x (controller-fine s i g) (freed-ok (ruleAt k) (c .radio .hardware) (begins 7 ps) table (table-fine s i g k l)) in
       let d = withHost c (withTable (c .host) k x) in
       let o = host-fine s i g (withTable (c .host) k x) in
-      record { ready = rw w (controller-ready s i g d fine o); left = rw w (controller-back s i g d fine o); hub = rw w (controller-decoded s i g d fine o); state = w }
+      record {
+        ready = rw w (controller-ready s i g d fine o);
+        left = rw w (controller-back s i g d fine o);
+        hub = rw w
+            (controller-decoded s i g d fine o);
+        state = w;
+      }
 
 -- a record holds an address and type
 pub seven-fit : (k size : ℕ) → k < 6 → size ≡ ruleAt k .size → 7 ≤ size
@@ -88,7 +98,8 @@ unfolding anyKey
 any-second m h a b e f g t = sym (rw (sym e ∙ f, sym g ∙ t))
 
 -- where the first two have none, the third tells
-pub any-third : (m : Octets → Bool) (h : Host) (a b c : Bool) → a ≡ holds m (tableOf h 1) → a ≡ false → b ≡ holds m (tableOf h 2) → b ≡ false → c ≡ holds m (tableOf h 3) → c ≡ anyKey m h
+pub any-third : (m : Octets → Bool) (h : Host) (a b c : Bool) → a ≡ holds m (tableOf h 1) → a ≡ false → b ≡ holds m (tableOf h 2) → b ≡ false
+    → c ≡ holds m (tableOf h 3) → c ≡ anyKey m h
 unfolding anyKey
 any-third m h a b c e f g t k = k ∙ sym (rw (sym e ∙ f, sym g ∙ t))
 
@@ -121,28 +132,32 @@ three-gone s i ps a b t x y z =
 -- 3. The reply ------------------------------------------------------------------------------------------------------------------------------------------
 
 -- Command Complete, then Device Unpaired
-pub unpaired-reply : (d : Octets) (i : ℕ) (ps b e : Octets) → 7 ≤ length ps → b ≡ writeAt d 0 (commandComplete i 0x001B 0 (part ps 0 7)) → e ≡ writeAt b 16 (event 0x0016 i (part ps 0 7))
-    → e ≡ writeAt d 0 (commandComplete i 0x001B 0 (take 7 ps) ++ event 0x0016 i (take 7 ps))
+pub unpaired-reply : (d : Octets) (i : ℕ) (ps b e : Octets) → 7 ≤ length ps → b ≡ writeAt d 0 (commandComplete i Codes.unpairDevice 0 (part ps 0 7))
+    → e ≡ writeAt b 16 (event Events.deviceUnpaired i (part ps 0 7))
+    → e ≡ writeAt d 0 (commandComplete i Codes.unpairDevice 0 (take 7 ps) ++ event Events.deviceUnpaired i (take 7 ps))
 unfolding part
 unpaired-reply d i ps b e l eb ee =
-    let n : length (commandComplete i 0x001B 0 (take 7 ps)) ≡ 16 = length-complete i 0x001B 0 (take 7 ps) ∙ rw (length-take-le 7 ps l) in
-    ee ∙ rw eb (then d 0 (commandComplete i 0x001B 0 (take 7 ps)) (event 0x0016 i (take 7 ps)) 16 (rw n))
+    let n : length (commandComplete i Codes.unpairDevice 0 (take 7 ps)) ≡ 16 = length-complete i Codes.unpairDevice 0 (take 7 ps)
+    ∙ rw (length-take-le 7 ps l) in
+    ee ∙ rw eb (then d 0 (commandComplete i Codes.unpairDevice 0 (take 7 ps)) (event Events.deviceUnpaired i (take 7 ps)) 16 (rw n))
 
 -- 4. The ways out of `unpair_device` --------------------------------------------------------------------------------------------------------------------
 
 -- the model's rule, by its four tests
-unpair-act : (i : ℕ) (c : Controller) (ps : Octets) (a b p k : Bool) → ltb 2 (octet ps 6) ≡ a → ltb 1 (octet ps 7) ≡ b → c .radio .powered ≡ p → anyKey (begins 7 ps) (c .host) ≡ k
+unpair-act : (i : ℕ) (c : Controller) (ps : Octets) (a b p k : Bool) → ltb 2 (octet ps 6) ≡ a → ltb 1 (octet ps 7) ≡ b → c .radio .powered ≡ p
+    → anyKey (begins 7 ps) (c .host) ≡ k
     → unpairDevice .act i c ps
-    ≡ unless (firstOf ((a ⇒ addressTypeAbove2) ∷ (b ⇒ disconnectAbove1) ∷ (not p ⇒ unpowered) ∷ (not k ⇒ notPaired) ∷ []))
-    (done (take 7 ps) (event 0x0016 i (take 7 ps)) (unpaired (begins 7 ps) (c .host)))
+    ≡ unless (firstOf ((refusedIf a addressTypeAbove2) ∷ (refusedIf b disconnectAbove1) ∷ (refusedIf (not p) unpowered) ∷ (refusedIf (not k) notPaired) ∷ []))
+    (done (take 7 ps) (event Events.deviceUnpaired i (take 7 ps)) (unpaired (begins 7 ps) (c .host)))
 unfolding unpairDevice
 unpair-act i c ps a b p k ea eb ep ek = rw (← ea, ← eb, ← ep, ← ek)
 
-module _ (s : Octets) (i : ℕ) (ps d d′ : Octets) (r : Answer) (g : Ready s i) (big : 1024 ≤ length d) where
+module _ (s : Octets) (i : ℕ) (ps d d′ : Octets) (r : Answer) (g : Ready s i) (big : Lengths.replyBuffer ≤ length d) where
   -- parameters that are not eight octets long: Invalid Parameters
-  pub unpair-length : (length ps ≡ 8 → ⊥) → r ≡ Refused 9 → d′ ≡ writeAt d 0 (commandStatus i 0x001B 0x0D) → Gives (served s i 0x001B ps unpairDevice) r d d′ s
+  pub unpair-length : (length ps ≡ 8 → ⊥) → r ≡ Refused 9 → d′ ≡ writeAt d 0 (commandStatus i Codes.unpairDevice Statuses.invalidParameters)
+      → Gives (immediateCommand s i Codes.unpairDevice ps unpairDevice) r d d′ s
   unfolding unpairDevice sized
-  unpair-length n m w = served-length s i 0x001B ps unpairDevice d d′ r g big (ne-eqb (length ps) 8 n) m w
+  unpair-length n m w = immediate-length s i Codes.unpairDevice ps unpairDevice d d′ r g big (ne-eqb (length ps) 8 n) m w
 
   module _ (eight : length ps ≡ 8) where
     -- eight octets are the length that the model asks for
@@ -151,21 +166,27 @@ module _ (s : Octets) (i : ℕ) (ps d d′ : Octets) (r : Answer) (g : Ready s i
     sized-eight = eq-eqb (length ps) 8 eight
 
     -- where the model refuses, the answer is Command Complete with the status, the address and its type, and the state stays
-    refuses : (x : Reason) → unpairDevice .act i (controllerOf s i) ps ≡ refuse x → r ≡ Refused 16 → d′ ≡ writeAt d 0 (commandComplete i 0x001B (statusOf x) (take 7 ps))
-        → Gives (served s i 0x001B ps unpairDevice) r d d′ s
+    refuses : (x : Reason) → unpairDevice .act i (controllerOf s i) ps ≡ refuse x → r ≡ Refused 16
+        → d′ ≡ writeAt d 0 (commandComplete i Codes.unpairDevice (statusOf x) (take 7 ps))
+        → Gives (immediateCommand s i Codes.unpairDevice ps unpairDevice) r d d′ s
     unfolding unpairDevice
-    refuses x a m w = served-address s i 0x001B ps unpairDevice d d′ r g big sized-eight x refl (omega arith) a m w
+    refuses x a m w = immediate-address s i Codes.unpairDevice ps unpairDevice d d′ r g big sized-eight x refl (omega arith) a m w
 
     -- an address type above 2: Invalid Parameters
-    pub type-refuses : 2 < getD ps 6 0 → r ≡ Refused 16 → d′ ≡ writeAt d 0 (commandComplete i 0x001B 0x0D (take 7 ps)) → Gives (served s i 0x001B ps unpairDevice) r d d′ s
+    pub type-refuses : 2 < getD ps 6 0 → r ≡ Refused 16
+        → d′ ≡ writeAt d 0 (commandComplete i Codes.unpairDevice Statuses.invalidParameters (take 7 ps))
+        → Gives (immediateCommand s i Codes.unpairDevice ps unpairDevice) r d d′ s
     unfolding octet firstOf unless statusOf
     type-refuses h m w = refuses addressTypeAbove2 (unpair-act i (controllerOf s i) ps true _ _ _ (lt-ltb 2 (getD ps 6 0) h) refl refl refl) m w
 
     module _ (t : getD ps 6 0 ≤ 2) where
       -- a disconnect octet above 1: Invalid Parameters
-      pub disconnect-refuses : 1 < getD ps 7 0 → r ≡ Refused 16 → d′ ≡ writeAt d 0 (commandComplete i 0x001B 0x0D (take 7 ps)) → Gives (served s i 0x001B ps unpairDevice) r d d′ s
+      pub disconnect-refuses : 1 < getD ps 7 0 → r ≡ Refused 16
+          → d′ ≡ writeAt d 0 (commandComplete i Codes.unpairDevice Statuses.invalidParameters (take 7 ps))
+          → Gives (immediateCommand s i Codes.unpairDevice ps unpairDevice) r d d′ s
       unfolding octet firstOf unless statusOf
-      disconnect-refuses h m w = refuses disconnectAbove1 (unpair-act i (controllerOf s i) ps false true _ _ (le-ltb 2 (getD ps 6 0) t) (lt-ltb 1 (getD ps 7 0) h) refl refl) m w
+      disconnect-refuses h m w =
+          refuses disconnectAbove1 (unpair-act i (controllerOf s i) ps false true _ _ (le-ltb 2 (getD ps 6 0) t) (lt-ltb 1 (getD ps 7 0) h) refl refl) m w
 
       module _ (u : getD ps 7 0 ≤ 1) (o : Settings) (eo : o ≡ settingsOf (controllerOf s i)) where
         -- the settings that were read tell whether the controller is powered
@@ -174,25 +195,34 @@ module _ (s : Octets) (i : ℕ) (ps d d′ : Octets) (r : Answer) (g : Ready s i
         power-is = rw eo
 
         -- an unpowered controller: Not Powered
-        pub power-refuses : o .radio .powered ≡ false → r ≡ Refused 16 → d′ ≡ writeAt d 0 (commandComplete i 0x001B 0x0F (take 7 ps)) → Gives (served s i 0x001B ps unpairDevice) r d d′ s
+        pub power-refuses : o .radio .powered ≡ false → r ≡ Refused 16
+            → d′ ≡ writeAt d 0 (commandComplete i Codes.unpairDevice Statuses.notPowered (take 7 ps))
+            → Gives (immediateCommand s i Codes.unpairDevice ps unpairDevice) r d d′ s
         unfolding octet firstOf unless statusOf
         power-refuses h m w =
-            refuses unpowered (unpair-act i (controllerOf s i) ps false false false _ (le-ltb 2 (getD ps 6 0) t) (le-ltb 1 (getD ps 7 0) u) (sym power-is ∙ h) refl) m w
+            refuses unpowered (unpair-act i (controllerOf s i) ps false false false _ (le-ltb 2 (getD ps 6 0) t) (le-ltb 1 (getD ps 7 0) u)
+            (sym power-is ∙ h) refl) m w
 
         module _ (p : o .radio .powered ≡ true) (k : Bool) (ek : k ≡ anyKey (begins 7 ps) (controllerOf s i .host)) where
           -- no key under the address and type: Not Paired
-          pub pair-refuses : k ≡ false → r ≡ Refused 16 → d′ ≡ writeAt d 0 (commandComplete i 0x001B 0x06 (take 7 ps)) → Gives (served s i 0x001B ps unpairDevice) r d d′ s
+          pub pair-refuses : k ≡ false → r ≡ Refused 16 → d′ ≡ writeAt d 0 (commandComplete i Codes.unpairDevice Statuses.notPaired (take 7 ps))
+              → Gives (immediateCommand s i Codes.unpairDevice ps unpairDevice) r d d′ s
           unfolding octet firstOf unless statusOf
           pair-refuses h m w =
-              refuses notPaired (unpair-act i (controllerOf s i) ps false false true false (le-ltb 2 (getD ps 6 0) t) (le-ltb 1 (getD ps 7 0) u) (sym power-is ∙ p) (sym ek ∙ h)) m w
+              refuses notPaired (unpair-act i (controllerOf s i) ps false false true false (le-ltb 2 (getD ps 6 0) t) (le-ltb 1 (getD ps 7 0) u)
+              (sym power-is ∙ p) (sym ek ∙ h)) m w
 
           -- there is one: all such keys are gone from the three tables, and the reply is Command Complete and Device Unpaired
-          pub unpair-done : k ≡ true → (s′ : Octets) → s′ ≡ encode (putController (decode s) i (withHost (controllerOf s i) (unpaired (begins 7 ps) (controllerOf s i .host)))) → r ≡ Done 29
-              → d′ ≡ writeAt d 0 (commandComplete i 0x001B 0 (take 7 ps) ++ event 0x0016 i (take 7 ps)) → Gives (served s i 0x001B ps unpairDevice) r d d′ s′
+          pub unpair-done : k ≡ true → (s′ : Octets)
+              → s′ ≡ encode (putController (decode s) i (withHost (controllerOf s i) (unpaired (begins 7 ps) (controllerOf s i .host)))) → r ≡ Done 29
+              → d′ ≡ writeAt d 0 (commandComplete i Codes.unpairDevice 0 (take 7 ps) ++ event Events.deviceUnpaired i (take 7 ps))
+              → Gives (immediateCommand s i Codes.unpairDevice ps unpairDevice) r d d′ s′
           unfolding octet firstOf unless
           unpair-done h s′ es m w =
-              let a = unpair-act i (controllerOf s i) ps false false true true (le-ltb 2 (getD ps 6 0) t) (le-ltb 1 (getD ps 7 0) u) (sym power-is ∙ p) (sym ek ∙ h) in
+              let a = unpair-act i (controllerOf s i) ps false false true true (le-ltb 2 (getD ps 6 0) t) (le-ltb 1 (getD ps 7 0) u)
+              (sym power-is ∙ p) (sym ek ∙ h) in
               let n7 : length (take 7 ps) ≡ 7 = length-take-le 7 ps (omega arith) in
-              let n : length (commandComplete i 0x001B 0 (take 7 ps) ++ event 0x0016 i (take 7 ps)) ≡ 29 =
-              simp (length-append) (omega (arith, length-complete i 0x001B 0 (take 7 ps), length-event 0x0016 i (take 7 ps) 7 n7)) in
-              served-done s i 0x001B ps unpairDevice d d′ r g big sized-eight s′ (take 7 ps) (event 0x0016 i (take 7 ps)) (unpaired (begins 7 ps) (controllerOf s i .host)) 29 a m n (omega arith) w es
+              let n : length (commandComplete i Codes.unpairDevice 0 (take 7 ps) ++ event Events.deviceUnpaired i (take 7 ps)) ≡ 29 =
+              simp (length-append) (omega (arith, length-complete i Codes.unpairDevice 0 (take 7 ps), length-event Events.deviceUnpaired i (take 7 ps) 7 n7)) in
+              immediate-done s i Codes.unpairDevice ps unpairDevice d d′ r g big sized-eight s′ (take 7 ps) (event Events.deviceUnpaired i (take 7 ps))
+              (unpaired (begins 7 ps) (controllerOf s i .host)) 29 a m n (omega arith) w es

@@ -9,6 +9,7 @@ use mathlib.Core.Option.{Option, none, some}
 use lib.ListN.{length, getD, set, replicate, length-replicate}
 use lib.Seq.{take-all, set-getD}
 use lib.Dec.{lit<}
+use Rattle.model.specs.Lengths as Lengths
 use Rattle.model.specs.declared.Settings.{Settings}
 use Rattle.model.specs.Octets.{Octets, le16}
 use Rattle.model.specs.State.{Controller, Hub, OpenCommand, settingsOf, withController, withHost, withName}
@@ -23,7 +24,8 @@ use Rattle.octets.specs.Parts.{join, lengths, part, write-whole, writeAt}
 use Rattle.layout.specs.Places.{Ready, base, controllerOf, emptied, openAt, placeOf, putController, sizes}
 use Rattle.rules.specs.Effects.{withSettings}
 use Rattle.layout.proofs.Reading.{present-controller, present-slot}
-use Rattle.layout.proofs.Lens.{Shaped, block-put, all-long, join-block, piece-length, piece-read, piece-write, pieces, pieces-sized, shaped, state-is, state-put, withBlock, withSlot, writeIn}
+use Rattle.layout.proofs.Lens.{Shaped, block-put, all-long, join-block, piece-length, piece-read, piece-write, pieces, pieces-sized, shaped}
+use Rattle.layout.proofs.Lens.{state-is, state-put, withBlock, withSlot, writeIn}
 
 -- 1. One slot of the hub, changed -----------------------------------------------------------------------------------------------------------------
 
@@ -33,7 +35,8 @@ unfolding withSlot putController
 put-controller h i d = rw set-getD
 
 -- another open command beside the controller that stands there
-pub put-open : (h : Hub) (i : ℕ) (c : Controller) (o : Option OpenCommand) → getD (h .plain .controllers) i none ≡ some c → withSlot h i (some c) o ≡ withOpen h i o
+pub put-open : (h : Hub) (i : ℕ) (c : Controller) (o : Option OpenCommand) → getD (h .plain .controllers) i none ≡ some c
+    → withSlot h i (some c) o ≡ withOpen h i o
 unfolding withSlot withOpen withController
 put-open h i c o e = rw (← e, set-getD)
 
@@ -43,7 +46,7 @@ unfolding withSlot emptied
 put-none h i = refl
 
 -- an empty block is zeros
-zeros : (n : ℕ) → n ≡ 4028 → replicate n 0 ≡ block none none
+zeros : (n : ℕ) → n ≡ Lengths.block → replicate n 0 ≡ block none none
 unfolding block
 zeros n e = rw e
 
@@ -57,7 +60,8 @@ write-piece ps k w e = ap (λ (x : Octets). set ps k x) (write-whole (getD ps k 
 -- the controller at a present index is valid
 pub controller-fine : (s : Octets) (i : ℕ) → Ready s i → controllerOk (controllerOf s i) ≡ true
 unfolding wellFormed
-controller-fine s i r = controller-ok (decode s .plain) i (controllerOf s i) (and-true (plainOk (decode s .plain)) _ (state-well s (r .ok)) .0) (present-controller s i r)
+controller-fine s i r =
+    controller-ok (decode s .plain) i (controllerOf s i) (and-true (plainOk (decode s .plain)) _ (state-well s (r .ok)) .0) (present-controller s i r)
 
 module _ (s : Octets) (i : ℕ) (r : Ready s i) where
   -- the shape of the hub
@@ -67,7 +71,9 @@ module _ (s : Octets) (i : ℕ) (r : Ready s i) where
   -- the block of a present index is the pieces of its controller and its open command
   pub now-is : s ≡ withBlock (decode s) i (join (pieces (controllerOf s i) (openAt s i)))
   unfolding openAt
-  now-is = state-back s (r .ok) ∙ state-is (decode s) i (shape .below) ∙ rw (present-slot s i (r .here), join-block (controllerOf s i) (getD (decode s .openCommands) i none))
+  now-is =
+      state-back s (r .ok) ∙ state-is (decode s) i (shape .below)
+      ∙ rw (present-slot s i (r .here), join-block (controllerOf s i) (getD (decode s .openCommands) i none))
 
   -- and they have their sizes
   now-sized : lengths (pieces (controllerOf s i) (openAt s i)) ≡ sizes
@@ -83,18 +89,21 @@ module _ (s : Octets) (i : ℕ) (r : Ready s i) where
       ap (λ (x : Octets). part x (placeOf i k) n) now-is ∙ (rw add-zero at q) ∙ take-all n (getD ps k []) (omega arith)
 
   -- piece k written anew, where that makes the pieces of a controller d and an open command o
-  pub piece-changed : (k : ℕ) (w : Octets) (d : Controller) (o : Option OpenCommand) → k < 11 → length w ≡ getD sizes k 0 → set (pieces (controllerOf s i) (openAt s i)) k w ≡ pieces d o
+  pub piece-changed : (k : ℕ) (w : Octets) (d : Controller) (o : Option OpenCommand) → k < 11 → length w ≡ getD sizes k 0
+      → set (pieces (controllerOf s i) (openAt s i)) k w ≡ pieces d o
       → writeAt s (placeOf i k) w ≡ encode (withSlot (decode s) i (some d) o)
   piece-changed k w d o l n e =
       let ps = pieces (controllerOf s i) (openAt s i) in
       let q = piece-write (decode s) i shape ps now-sized k 0 w l (omega arith) in
       let m : length w ≡ length (getD ps k []) = n ∙ sym (piece-length (decode s) i shape ps now-sized k) in
       let p : writeIn ps k 0 w ≡ pieces d o = write-piece ps k w m ∙ e in
-      let f : withBlock (decode s) i (join (pieces d o)) ≡ encode (withSlot (decode s) i (some d) o) = rw (← join-block d o) (state-put (decode s) i (some d) o (shape .beside)) in
+      let f : withBlock (decode s) i (join (pieces d o)) ≡ encode (withSlot (decode s) i (some d) o) = rw (← join-block d o)
+      (state-put (decode s) i (some d) o (shape .beside)) in
       ap (λ (x : Octets). writeAt x (placeOf i k) w) now-is ∙ (rw (add-zero, p) at q) ∙ f
 
   -- a piece of the controller written anew, with the open command as it was
-  pub controller-changed : (k : ℕ) (w : Octets) (d : Controller) → k < 11 → length w ≡ getD sizes k 0 → set (pieces (controllerOf s i) (openAt s i)) k w ≡ pieces d (openAt s i)
+  pub controller-changed : (k : ℕ) (w : Octets) (d : Controller) → k < 11 → length w ≡ getD sizes k 0
+      → set (pieces (controllerOf s i) (openAt s i)) k w ≡ pieces d (openAt s i)
       → writeAt s (placeOf i k) w ≡ encode (putController (decode s) i d)
   unfolding openAt
   controller-changed k w d l n e = piece-changed k w d (openAt s i) l n e ∙ ap encode (put-controller (decode s) i d)
@@ -119,9 +128,10 @@ module _ (s : Octets) (i : ℕ) (r : Ready s i) where
   name-changed ps n = controller-changed 4 ps (withHost (controllerOf s i) (withName (controllerOf s i .host) ps)) (lit< tt) n refl
 
   -- the block made zero, whole
-  pub block-emptied : (n : ℕ) → n ≡ 4028 → writeAt s (base i) (replicate n 0) ≡ encode (emptied (decode s) i)
+  pub block-emptied : (n : ℕ) → n ≡ Lengths.block → writeAt s (base i) (replicate n 0) ≡ encode (emptied (decode s) i)
   block-emptied n e =
       let ps = pieces (controllerOf s i) (openAt s i) in
       let q = block-put (decode s) i shape (join ps) (all-long (decode s) i shape ps now-sized) (replicate n 0) (length-replicate {A = ℕ} n 0 ∙ e) in
-      ap (λ (x : Octets). writeAt x (base i) (replicate n 0)) now-is ∙ q ∙ ap (λ (x : Octets). withBlock (decode s) i x) (zeros n e) ∙ state-put (decode s) i none none (shape .beside)
+      ap (λ (x : Octets). writeAt x (base i) (replicate n 0)) now-is ∙ q ∙ ap (λ (x : Octets). withBlock (decode s) i x) (zeros n e)
+      ∙ state-put (decode s) i none none (shape .beside)
       ∙ ap encode (put-none (decode s) i)

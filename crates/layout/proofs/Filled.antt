@@ -8,6 +8,7 @@ use mathlib.Core.List.{List, [], _∷_, map}
 use mathlib.Core.Option.{Option, none, some}
 use lib.ListN.{length, getD, drop, replicate, length-replicate}
 use lib.Dec.{lit<, lit≤}
+use Rattle.model.specs.Lengths as Lengths
 use Rattle.model.specs.declared.Hardware.{Hardware}
 use Rattle.model.specs.Octets.{Octets, le16, le32}
 use Rattle.model.specs.State.{OpenCommand, flag, fresh, idle, leSupported, noTables, noTimer, plugged, settingsOf}
@@ -18,7 +19,8 @@ use Rattle.model.specs.Proof.Demand3.{state-back, state-well}
 use Rattle.octets.specs.Parts.{join, lengths, placeAt, write-split, write-whole, writeAt}
 use Rattle.layout.specs.Places.{base, hardwareHead, openAt, placeOf, presentAt, putController, sizes, withClock}
 use Rattle.layout.proofs.Reading.{absent-open, absent-slot}
-use Rattle.layout.proofs.Lens.{Shaped, join-block, piece-write, pieces, regionPieces, shaped, state-is, state-put, withBlock, withSlot, write-in-sized, writeIn}
+use Rattle.layout.proofs.Lens.{Shaped, join-block, piece-write, pieces, regionPieces, shaped, state-is, state-put, withBlock, withSlot}
+use Rattle.layout.proofs.Lens.{write-in-sized, writeIn}
 use Rattle.layout.proofs.Change.{put-controller}
 use Rattle.table.proofs.Regions.{word-over}
 
@@ -46,7 +48,8 @@ length-hardware f n = omega arith
 -- with 1 before them, the hardware and the flag of Low Energy, they are those of a controller just plugged
 filled-pieces : (f : Hardware) → length (f .publicAddress) ≡ 6
     → writeIn (writeIn (writeIn zeroPieces 0 0 (1 ∷ [])) 2 0 (hardwarePart f)) 3 4 (flag (leSupported f) 1 ∷ []) ≡ pieces (plugged f) none
-unfolding zeroPieces sizes writeIn writeAt pieces openPart plugged settingsPart settingsOf noTimer noTables flag le16 le32 regionPieces region occupancy slots slotOctets tableRules uuidRule linkKeyRule longTermKeyRule identityKeyRule blockedRule deviceRule
+unfolding zeroPieces sizes writeIn writeAt pieces openPart plugged settingsPart settingsOf noTimer noTables flag le16 le32 regionPieces region
+    occupancy slots slotOctets tableRules uuidRule linkKeyRule longTermKeyRule identityKeyRule blockedRule deviceRule
 filled-pieces f n =
     let hw : writeAt (replicate 13 0) 0 (hardwarePart f) ≡ hardwarePart f = write-whole (replicate 13 0) (hardwarePart f) (length-hardware f n) in
     ap {B = List Octets} (λ x. (1 ∷ []) ∷ replicate 5 0 ∷ x ∷ (0 ∷ 0 ∷ 0 ∷ 0 ∷ flag (leSupported f) 1 ∷ replicate 8 0) ∷ drop 4 zeroPieces) hw
@@ -78,8 +81,10 @@ module _ (s : Octets) (i : ℕ) (f : Hardware) (ok : stateOk s ≡ true) (l : i 
       let qs = writeIn ps 2 0 (hardwarePart f) in
       let y = write-in-sized ps 2 0 (hardwarePart f) z in
       let m = length-hardware f n in
-      let one = ap (λ (x : Octets). writeAt x (placeOf i 0 + 0) (1 ∷ [])) zero-now ∙ piece-write h i shape zeroPieces zero-sized 0 0 (1 ∷ []) (lit< tt) (lit≤ tt) in
-      let two = ap (λ (x : Octets). writeAt x (placeOf i 2 + 0) (hardwarePart f)) one ∙ piece-write h i shape ps z 2 0 (hardwarePart f) (lit< tt) (omega arith) in
+      let one = ap (λ (x : Octets). writeAt x (placeOf i 0 + 0) (1 ∷ [])) zero-now
+      ∙ piece-write h i shape zeroPieces zero-sized 0 0 (1 ∷ []) (lit< tt) (lit≤ tt) in
+      let two = ap (λ (x : Octets). writeAt x (placeOf i 2 + 0) (hardwarePart f)) one
+      ∙ piece-write h i shape ps z 2 0 (hardwarePart f) (lit< tt) (omega arith) in
       ap (λ (x : Octets). writeAt x (placeOf i 3 + 4) (flag (leSupported f) 1 ∷ [])) two
       ∙ piece-write h i shape qs y 3 4 (flag (leSupported f) 1 ∷ []) (lit< tt) (lit≤ tt)
       ∙ ap (λ (x : List Octets). withBlock h i (join x)) (filled-pieces f n)
@@ -93,7 +98,8 @@ module _ (s : Octets) (i : ℕ) (f : Hardware) (ok : stateOk s ≡ true) (l : i 
       rw (← join-block (plugged f) none) (state-put (decode s) i (some (plugged f)) none (shape .beside)) ∙ ap encode p
 
   -- the four writes of plug: present, the hardware in two parts, Low Energy
-  pub block-filled : writeAt (writeAt (writeAt (writeAt s (base i) (1 ∷ [])) (base i + 6) (hardwareHead f)) (base i + 13) (f .publicAddress)) (base i + 23) (flag (leSupported f) 1 ∷ [])
+  pub block-filled : writeAt (writeAt (writeAt (writeAt s (base i) (1 ∷ [])) (base i + 6) (hardwareHead f)) (base i + 13) (f .publicAddress))
+      (base i + 23) (flag (leSupported f) 1 ∷ [])
       ≡ encode (putController (decode s) i (plugged f))
   unfolding placeOf placeAt sizes
   block-filled =
@@ -104,12 +110,12 @@ module _ (s : Octets) (i : ℕ) (f : Hardware) (ok : stateOk s ≡ true) (l : i 
 -- 2. The fresh state --------------------------------------------------------------------------------------------------------------------------
 
 -- zeros are the fresh state
-fresh-zeros : (n : ℕ) → n ≡ 16116 → replicate n 0 ≡ encode (idle fresh)
+fresh-zeros : (n : ℕ) → n ≡ Lengths.state → replicate n 0 ≡ encode (idle fresh)
 unfolding encode idle fresh blocks block le32
 fresh-zeros n e = rw e
 
 -- a state of the right length made zero
-pub state-cleared : (s : Octets) (n : ℕ) → length s ≡ 16116 → n ≡ 16116 → writeAt s 0 (replicate n 0) ≡ encode (idle fresh)
+pub state-cleared : (s : Octets) (n : ℕ) → length s ≡ Lengths.state → n ≡ Lengths.state → writeAt s 0 (replicate n 0) ≡ encode (idle fresh)
 state-cleared s n e m =
     let z : length (replicate {A = ℕ} n 0) ≡ length s = length-replicate {A = ℕ} n 0 ∙ m ∙ sym e in
     write-whole s (replicate n 0) z ∙ fresh-zeros n m

@@ -26,7 +26,8 @@ use Rattle.layout.proofs.Change.{controller-fine, put-controller, put-o
 -- 1. Well-formed hubs, changed ------------------------------------------------------------------------------------------------------------------
 
 -- one slot and its open command changed
-opens-set : (ss : List (Option Controller)) (os : List (Option OpenCommand)) (i : ℕ) (x : Option Controller) (o : Option OpenCommand) → opensOk ss os ≡ true → openOk x o ≡ true
+opens-set : (ss : List (Option Controller)) (os : List (Option OpenCommand)) (i : ℕ) (x : Option Controller) (o : Option OpenCommand)
+    → opensOk ss os ≡ true → openOk x o ≡ true
     → opensOk (set ss i x) (set os i o) ≡ true
 unfolding opensOk
 opens-set [] [] i x o e n = refl
@@ -36,22 +37,26 @@ opens-set (s ∷ ss) (p ∷ os) zero x o e n = both n (and-true (openOk s p) _ e
 opens-set (s ∷ ss) (p ∷ os) (suc i) x o e n = let a = and-true (openOk s p) _ e in both (a .0) (opens-set ss os i x o (a .1) n)
 
 -- leave a well-formed hub so, if the two fit
-pub slot-well : (h : Hub) (i : ℕ) (x : Option Controller) (o : Option OpenCommand) → wellFormed h ≡ true → slotOk x ≡ true → openOk x o ≡ true → wellFormed (withSlot h i x o) ≡ true
+pub slot-well : (h : Hub) (i : ℕ) (x : Option Controller) (o : Option OpenCommand) → wellFormed h ≡ true → slotOk x ≡ true → openOk x o ≡ true
+    → wellFormed (withSlot h i x o) ≡ true
 unfolding wellFormed withSlot withController
 slot-well h i x o e k n =
     let a = and-true (plainOk (h .plain)) _ e in
     let f = plain-fit (h .plain) (a .0) in
     let p : plainOk (withController (h .plain) i x) ≡ true =
-    fit-plain (withController (h .plain) i x) (record { four = rw (length-set (h .plain .controllers) i x) (f .four); clock = f .clock; slots = slots-set (h .plain .controllers) i x (f .slots) k }) in
+    fit-plain (withController (h .plain) i x) (record
+    { four = rw (length-set (h .plain .controllers) i x) (f .four); clock = f .clock; slots = slots-set (h .plain .controllers) i x (f .slots) k }) in
     both p (opens-set (h .plain .controllers) (h .openCommands) i x o (a .1) n)
 
 -- a controller changed
-pub put-well : (h : Hub) (i : ℕ) (c : Controller) → wellFormed h ≡ true → controllerOk c ≡ true → openOk (some c) (underWay h i) ≡ true → wellFormed (putController h i c) ≡ true
+pub put-well : (h : Hub) (i : ℕ) (c : Controller) → wellFormed h ≡ true → controllerOk c ≡ true → openOk (some c) (underWay h i) ≡ true
+    → wellFormed (putController h i c) ≡ true
 unfolding slotOk underWay
 put-well h i c e k n = rw (← put-controller h i c) (slot-well h i (some c) (getD (h .openCommands) i none) e k n)
 
 -- an open command changed
-pub open-well : (h : Hub) (i : ℕ) (c : Controller) (o : Option OpenCommand) → wellFormed h ≡ true → getD (h .plain .controllers) i none ≡ some c → controllerOk c ≡ true → openOk (some c) o ≡ true
+pub open-well : (h : Hub) (i : ℕ) (c : Controller) (o : Option OpenCommand) → wellFormed h ≡ true → getD (h .plain .controllers) i none ≡ some c
+    → controllerOk c ≡ true → openOk (some c) o ≡ true
     → wellFormed (withOpen h i o) ≡ true
 unfolding slotOk
 open-well h i c o e g k n = rw (← put-open h i c o g) (slot-well h i (some c) o e k n)
@@ -170,13 +175,15 @@ module _ (s : Octets) (i : ℕ) (r : Ready s i) where
     pub other-ready : (j : ℕ) → (j ≡ i → ⊥) → Ready s j → Ready (encode (putController (decode s) i c)) j
     unfolding putController
     other-ready j d q =
-        encode-ready (putController (decode s) i c) controller-well j (controllerOf s j) (other-slot (decode s .plain) i j (some c) d ∙ present-controller s j q)
+        encode-ready (putController (decode s) i c) controller-well j (controllerOf s j)
+        (other-slot (decode s .plain) i j (some c) d ∙ present-controller s j q)
 
     -- with the same controller
     pub other-controller : (j : ℕ) → (j ≡ i → ⊥) → Ready s j → controllerOf (encode (putController (decode s) i c)) j ≡ controllerOf s j
     unfolding putController
     other-controller j d q =
-        encode-controller (putController (decode s) i c) controller-well j (controllerOf s j) (other-slot (decode s .plain) i j (some c) d ∙ present-controller s j q)
+        encode-controller (putController (decode s) i c) controller-well j (controllerOf s j)
+        (other-slot (decode s .plain) i j (some c) d ∙ present-controller s j q)
 
     -- another absent index stays absent
     pub other-absent : (j : ℕ) → (j ≡ i → ⊥) → presentAt s j ≡ false → presentAt (encode (putController (decode s) i c)) j ≡ false

@@ -8,6 +8,7 @@ use mathlib.Core.Option.{some}
 use lib.ListN.{length, getD, take, drop, replicate, length-take}
 use lib.Dec.{lit≤}
 use borrow.Author.Tests.{eq-eqb, ne-eqb, le-leb, lt-leb, le-ltb, lt-ltb}
+use Rattle.model.specs.Lengths as Lengths
 use Rattle.model.specs.declared.Settings.{Settings}
 use Rattle.model.specs.Octets.{Octets, le16, usedPart}
 use Rattle.model.specs.State.{namePart}
@@ -29,7 +30,7 @@ abbrev pub offsets : List ℕ
 offsets = 292 ∷ 840 ∷ 1644 ∷ 2800 ∷ 3540 ∷ 3768 ∷ []
 
 -- inside it
-pub offset-below : (k : ℕ) → getD offsets k 0 < 4028
+pub offset-below : (k : ℕ) → getD offsets k 0 < Lengths.block
 offset-below zero = omega arith
 offset-below (suc zero) = omega arith
 offset-below (suc (suc zero)) = omega arith
@@ -56,7 +57,8 @@ table-is i k l = rw (offset-is k l)
 
 -- the flags and the timer, then the address
 pub settings-put : (s : Octets) (i : ℕ) (m : Settings) → Ready s i → length (m .radio .staticAddress) ≡ 6
-    → writeAt (writeAt s (base i + 19) (settingsHead m)) (base i + 26) (m .radio .staticAddress) ≡ encode (putController (decode s) i (withSettings (controllerOf s i) m))
+    → writeAt (writeAt s (base i + 19) (settingsHead m)) (base i + 26) (m .radio .staticAddress) ≡ encode
+    (putController (decode s) i (withSettings (controllerOf s i) m))
 unfolding placeOf placeAt sizes settingsHead settingsPart le16
 settings-put s i m r n =
     let e : base i + 26 ≡ base i + 19 + 7 = omega arith in

@@ -9,6 +9,7 @@ use mathlib.Core.Option.{Option, none, some}
 use lib.ListN.{length, getD, drop, set, length-append, length-set}
 use lib.Seq.{getD-set-same, set-set, set-getD}
 use lib.Dec.{eqb}
+use Rattle.model.specs.Lengths as Lengths
 use Rattle.model.specs.declared.Hardware.{Hardware}
 use Rattle.model.specs.Octets.{Octets, le16, le32}
 use Rattle.model.specs.State.{Controller, Hub, OpenCommand, Table, hardwareOk, settingsOf, withController}
@@ -78,7 +79,8 @@ set-blocks (s ∷ ss) (p ∷ os) zero x o l = refl
 set-blocks (s ∷ ss) (p ∷ os) (suc i) x o l = ap {B = List Octets} (λ l. block s p ∷ l) (set-blocks ss os i x o (omega arith))
 
 -- the block at i
-get-block : (ss : List (Option Controller)) (os : List (Option OpenCommand)) (i : ℕ) → i < length ss → getD (blockPieces ss os) i [] ≡ block (getD ss i none) (getD os i none)
+get-block : (ss : List (Option Controller)) (os : List (Option OpenCommand)) (i : ℕ) → i < length ss
+    → getD (blockPieces ss os) i [] ≡ block (getD ss i none) (getD os i none)
 unfolding blockPieces
 get-block [] os i l = absurd (omega arith)
 get-block (s ∷ ss) os zero l = refl
@@ -88,17 +90,17 @@ get-block (s ∷ ss) (o ∷ os) (suc i) l = get-block ss os i (omega arith)
 -- every piece is as long as a block
 unfoldable pub Even : List Octets → Type 0
 Even [] = Unit {0}
-Even (p ∷ ps) = (length p ≡ 4028) × Even ps
+Even (p ∷ ps) = (length p ≡ Lengths.block) × Even ps
 
 -- so block i begins behind i blocks
-even-place : (ps : List Octets) (i : ℕ) → i < length ps → Even ps → placeAt (lengths ps) i ≡ 4028 * i
+even-place : (ps : List Octets) (i : ℕ) → i < length ps → Even ps → placeAt (lengths ps) i ≡ Lengths.block * i
 unfolding placeAt lengths Even
 even-place [] i l e = absurd (omega arith)
 even-place (p ∷ ps) zero l e = refl
 even-place (p ∷ ps) (suc i) l e = rw (e .0, even-place ps i (omega arith) (e .1)) (omega arith)
 
 -- so it stays with a piece of that length in the place of another
-even-set : (ps : List Octets) (i : ℕ) (p : Octets) → length p ≡ 4028 → Even ps → Even (set ps i p)
+even-set : (ps : List Octets) (i : ℕ) (p : Octets) → length p ≡ Lengths.block → Even ps → Even (set ps i p)
 unfolding Even
 even-set [] i p n e = e
 even-set (q ∷ ps) zero p n e = (n, e .1)
@@ -157,7 +159,7 @@ place-fits (n ∷ ns) zero = omega arith
 place-fits (n ∷ ns) (suc k) = omega (arith, place-fits ns k)
 
 -- a piece lies inside its block
-pub inside : (k : ℕ) → placeAt sizes k + getD sizes k 0 ≤ 4028
+pub inside : (k : ℕ) → placeAt sizes k + getD sizes k 0 ≤ Lengths.block
 unfolding total sizes
 inside k = place-fits sizes k
 
@@ -198,10 +200,12 @@ region-sizes f (u ∷ us) (t ∷ ts) e = let a = and-true (tableOk u f t) _ e in
 
 -- the pieces of a valid controller have the sizes
 pub pieces-sized : (c : Controller) (o : Option OpenCommand) → controllerOk c ≡ true → lengths (pieces c o) ≡ sizes
-unfolding pieces lengths sizes sizesOf hardwarePart settingsPart settingsOf le16 le32 radioOk hardwareOk tableRules uuidRule linkKeyRule longTermKeyRule identityKeyRule blockedRule deviceRule
+unfolding pieces lengths sizes sizesOf hardwarePart settingsPart settingsOf le16 le32 radioOk hardwareOk tableRules uuidRule linkKeyRule
+    longTermKeyRule identityKeyRule blockedRule deviceRule
 pieces-sized c o e =
     let h = controller-fit c e in
-    let p6 : length (c .radio .hardware .publicAddress) ≡ 6 = equal _ _ (and-true (eqb (length (c .radio .hardware .publicAddress)) 6) _ (and-true (hardwareOk (c .radio .hardware)) _ (h .radio) .0) .0) in
+    let p6 : length (c .radio .hardware .publicAddress) ≡ 6 = equal _ _
+    (and-true (eqb (length (c .radio .hardware .publicAddress)) 6) _ (and-true (hardwareOk (c .radio .hardware)) _ (h .radio) .0) .0) in
     let s6 : length (c .radio .staticAddress) ≡ 6 = equal _ _ (h .staticAddress) in
     let n : length (c .host .name) ≡ 260 = equal _ _ (and-true (eqb (length (c .host .name)) 260) _ (h .name) .0) in
     rw (p6, s6, n, length-open o, region-sizes (c .radio .hardware) tableRules (c .host .tables) (h .tables))
@@ -217,7 +221,7 @@ behind : (x u v : ℕ) → 4 + u + v ≡ length (le32 x) + (u + v)
 unfolding le32
 behind x u v = omega arith
 
-module _ (h : Hub) (i : ℕ) (s : Shaped h i) (b : Octets) (z : length b ≡ 4028) where
+module _ (h : Hub) (i : ℕ) (s : Shaped h i) (b : Octets) (z : length b ≡ Lengths.block) where
   -- the blocks, with b in place i
   blocksNow : List Octets
   blocksNow = set (blockPieces (h .plain .controllers) (h .openCommands)) i b
@@ -228,33 +232,36 @@ module _ (h : Hub) (i : ℕ) (s : Shaped h i) (b : Octets) (z : length b ≡ 402
   now-below = rw (length-set, length-pieces (h .plain .controllers) (h .openCommands)) (s .below)
 
   -- block i begins behind i blocks
-  now-place : placeAt (lengths blocksNow) i ≡ 4028 * i
+  now-place : placeAt (lengths blocksNow) i ≡ Lengths.block * i
   unfolding blocksNow
   now-place = even-place blocksNow i now-below (even-set (blockPieces (h .plain .controllers) (h .openCommands)) i b z (s .even))
 
   -- block i is b
   now-get : getD blocksNow i [] ≡ b
   unfolding blocksNow
-  now-get = getD-set-same (blockPieces (h .plain .controllers) (h .openCommands)) i b [] (rw (length-pieces (h .plain .controllers) (h .openCommands)) (s .below))
+  now-get =
+      getD-set-same (blockPieces (h .plain .controllers) (h .openCommands)) i b [] (rw (length-pieces (h .plain .controllers) (h .openCommands)) (s .below))
 
   -- reading in block i
-  pub block-read : (a n : ℕ) → a + n ≤ 4028 → part (withBlock h i b) (base i + a) n ≡ part b a n
+  pub block-read : (a n : ℕ) → a + n ≤ Lengths.block → part (withBlock h i b) (base i + a) n ≡ part b a n
   unfolding withBlock blocksNow
   block-read a n f =
       let j = join-read blocksNow i a n (rw (now-get, z) f) in
-      rw (behind (h .plain .clock) (4028 * i) a) (part-right (le32 (h .plain .clock)) (join blocksNow) (4028 * i + a) n ∙ (rw (now-place, now-get) at j))
+      rw (behind (h .plain .clock) (Lengths.block * i) a)
+      (part-right (le32 (h .plain .clock)) (join blocksNow) (Lengths.block * i + a) n ∙ (rw (now-place, now-get) at j))
 
   -- writing in block i
-  pub block-write : (a : ℕ) (w : Octets) → a + length w ≤ 4028 → writeAt (withBlock h i b) (base i + a) w ≡ withBlock h i (writeAt b a w)
+  pub block-write : (a : ℕ) (w : Octets) → a + length w ≤ Lengths.block → writeAt (withBlock h i b) (base i + a) w ≡ withBlock h i (writeAt b a w)
   unfolding withBlock blocksNow
   block-write a w f =
       let j = join-write blocksNow i a w now-below (rw (now-get, z) f) in
-      let r = write-right (le32 (h .plain .clock)) (join blocksNow) (4028 * i + a) w in
-      let k : writeAt (join blocksNow) (4028 * i + a) w ≡ join (set (blockPieces (h .plain .controllers) (h .openCommands)) i (writeAt b a w)) = (rw (now-place, now-get, set-set) at j) in
-      rw (behind (h .plain .clock) (4028 * i) a) (r ∙ ap (λ (x : Octets). le32 (h .plain .clock) ++ x) k)
+      let r = write-right (le32 (h .plain .clock)) (join blocksNow) (Lengths.block * i + a) w in
+      let k : writeAt (join blocksNow) (Lengths.block * i + a) w ≡ join
+      (set (blockPieces (h .plain .controllers) (h .openCommands)) i (writeAt b a w)) = (rw (now-place, now-get, set-set) at j) in
+      rw (behind (h .plain .clock) (Lengths.block * i) a) (r ∙ ap (λ (x : Octets). le32 (h .plain .clock) ++ x) k)
 
   -- the whole block written anew
-  pub block-put : (w : Octets) → length w ≡ 4028 → writeAt (withBlock h i b) (base i) w ≡ withBlock h i w
+  pub block-put : (w : Octets) → length w ≡ Lengths.block → writeAt (withBlock h i b) (base i) w ≡ withBlock h i w
   block-put w n = (rw add-zero at (block-write 0 w (omega arith))) ∙ ap (λ (x : Octets). withBlock h i x) (write-whole b w (n ∙ sym z))
 
 module _ (h : Hub) (i : ℕ) (s : Shaped h i) (ps : List Octets) (z : lengths ps ≡ sizes) where
@@ -268,7 +275,7 @@ module _ (h : Hub) (i : ℕ) (s : Shaped h i) (ps : List Octets) (z : lengths ps
   eleven = sym (length-lengths ps) ∙ rw z
 
   -- joined, they are as long as a block
-  pub all-long : length (join ps) ≡ 4028
+  pub all-long : length (join ps) ≡ Lengths.block
   unfolding sizes total
   all-long = length-join ps ∙ rw z
 
@@ -281,7 +288,8 @@ module _ (h : Hub) (i : ℕ) (s : Shaped h i) (ps : List Octets) (z : lengths ps
       rw e (block-read h i s (join ps) all-long (placeAt sizes k + a) n (omega (arith, inside k)) ∙ (rw z at q))
 
   -- writing in piece k of block i
-  pub piece-write : (k a : ℕ) (w : Octets) → k < 11 → a + length w ≤ getD sizes k 0 → writeAt (withBlock h i (join ps)) (placeOf i k + a) w ≡ withBlock h i (join (writeIn ps k a w))
+  pub piece-write : (k a : ℕ) (w : Octets) → k < 11 → a + length w ≤ getD sizes k 0
+      → writeAt (withBlock h i (join ps)) (placeOf i k + a) w ≡ withBlock h i (join (writeIn ps k a w))
   unfolding placeOf writeIn
   piece-write k a w l f =
       let n = eleven in
@@ -292,7 +300,8 @@ module _ (h : Hub) (i : ℕ) (s : Shaped h i) (ps : List Octets) (z : lengths ps
 -- 6. Blocks and hubs ----------------------------------------------------------------------------------------------------------------------------
 
 -- the state of a hub, with its own block in block i
-pub state-is : (h : Hub) (i : ℕ) → i < length (h .plain .controllers) → encode h ≡ withBlock h i (block (getD (h .plain .controllers) i none) (getD (h .openCommands) i none))
+pub state-is : (h : Hub) (i : ℕ) → i < length (h .plain .controllers)
+    → encode h ≡ withBlock h i (block (getD (h .plain .controllers) i none) (getD (h .openCommands) i none))
 unfolding encode withBlock
 state-is h i l = rw (join-blocks (h .plain .controllers) (h .openCommands), ← get-block (h .plain .controllers) (h .openCommands) i l, set-getD)
 
@@ -301,7 +310,8 @@ unfoldable pub withSlot : Hub → ℕ → Option Controller → Option OpenComma
 withSlot h i x o = record { plain = withController (h .plain) i x; openCommands = set (h .openCommands) i o }
 
 -- the state with their block is the state of that hub
-pub state-put : (h : Hub) (i : ℕ) (x : Option Controller) (o : Option OpenCommand) → i < length (h .openCommands) → withBlock h i (block x o) ≡ encode (withSlot h i x o)
+pub state-put : (h : Hub) (i : ℕ) (x : Option Controller) (o : Option OpenCommand) → i < length (h .openCommands)
+    → withBlock h i (block x o) ≡ encode (withSlot h i x o)
 unfolding encode withBlock withSlot withController
 state-put h i x o l =
     rw (set-blocks (h .plain .controllers) (h .openCommands) i x o l, join-blocks (set (h .plain .controllers) i x) (set (h .openCommands) i o))

@@ -8,6 +8,7 @@ use mathlib.Core.Option.{Option, none, some}
 use lib.ListN.{length, take, drop, replicate}
 use lib.Seq.{drop-drop, getD-drop}
 use borrow.Author.Tests.{eq-eqb, ne-eqb}
+use Rattle.model.specs.Lengths as Lengths
 use Rattle.model.specs.Octets.{Octets, le16, u16}
 use Rattle.model.specs.State.{Controller, OpenCommand}
 use Rattle.model.specs.Commands.{rule}
@@ -25,18 +26,25 @@ use Rattle.layout.proofs.Kept.{open-fine}
 -- 1. Read -------------------------------------------------------------------------------------------------------------------------------------
 
 -- the code in the block and in the state
-code-at : (s : Octets) (b : ℕ) → u16 (drop 1 (part s b 4028)) 0 ≡ u16 s (b + 1)
+code-at : (s : Octets) (b : ℕ) → u16 (drop 1 (part s b Lengths.block)) 0 ≡ u16 s (b + 1)
 unfolding u16
 code-at s b =
     let e : b + 2 ≡ b + 1 + 1 = omega arith in
-    rw (getD-drop 1 (part s b 4028) 0 0, getD-drop 1 (part s b 4028) 1 0, getD-part s b 4028 1 (omega arith), getD-part s b 4028 2 (omega arith), e)
+    rw (
+      getD-drop 1 (part s b Lengths.block) 0 0,
+      getD-drop 1 (part s b Lengths.block) 1 0,
+      getD-part s b Lengths.block 1 (omega arith),
+      getD-part s b
+          Lengths.block 2 (omega arith),
+      e,
+    )
 
 -- what stands there, by its code
-open-by : (s : Octets) (i : ℕ) → Ready s i → openAt s i ≡ openWith (u16 s (placeOf i 1)) (drop 3 (part s (base i) 4028))
+open-by : (s : Octets) (i : ℕ) → Ready s i → openAt s i ≡ openWith (u16 s (placeOf i 1)) (drop 3 (part s (base i) Lengths.block))
 unfolding openBack placeOf placeAt sizes
 open-by s i r =
     let a = present-octet s i (r .here) in
-    block-open s i (r .below) ∙ open-some (part s (base i) 4028) (a .1) ∙ rw (code-at s (base i), drop-drop 2 1 (part s (base i) 4028))
+    block-open s i (r .below) ∙ open-some (part s (base i) Lengths.block) (a .1) ∙ rw (code-at s (base i), drop-drop 2 1 (part s (base i) Lengths.block))
 
 -- a code of 0
 with-zero : (code : ℕ) (ps : Octets) → code ≡ 0 → openWith code ps ≡ none
@@ -58,16 +66,16 @@ openOf : ℕ → Octets → OpenCommand
 openOf code ps = record { code = code; params = ps }
 
 -- the parameters in the block and in the state
-params-at : (s : Octets) (i n : ℕ) → n ≤ 3 → take n (drop 3 (part s (base i) 4028)) ≡ part s (placeOf i 1 + 2) n
+params-at : (s : Octets) (i n : ℕ) → n ≤ 3 → take n (drop 3 (part s (base i) Lengths.block)) ≡ part s (placeOf i 1 + 2) n
 unfolding part placeOf placeAt sizes
 params-at s i n l =
     let e : base i + 1 + 2 ≡ base i + 3 = omega arith in
-    rw e (part-part s (base i) 4028 3 n (omega arith))
+    rw e (part-part s (base i) Lengths.block 3 n (omega arith))
 
 module _ (s : Octets) (i : ℕ) (r : Ready s i) where
   -- nothing is under way where the code is 0
   pub open-nothing : u16 s (placeOf i 1) ≡ 0 → openAt s i ≡ none
-  open-nothing e = open-by s i r ∙ with-zero (u16 s (placeOf i 1)) (drop 3 (part s (base i) 4028)) e
+  open-nothing e = open-by s i r ∙ with-zero (u16 s (placeOf i 1)) (drop 3 (part s (base i) Lengths.block)) e
 
   -- what is known of a command under way
   pub open-started : (o : OpenCommand) → openAt s i ≡ some o → Started o
@@ -79,8 +87,8 @@ module _ (s : Octets) (i : ℕ) (r : Ready s i) where
   unfolding openOf
   open-command n =
       let code = u16 s (placeOf i 1) in
-      let o : OpenCommand = record { code = code; params = take (sizeOf (rule code)) (drop 3 (part s (base i) 4028)) } in
-      let a : openAt s i ≡ some o = open-by s i r ∙ with-code code (drop 3 (part s (base i) 4028)) n in
+      let o : OpenCommand = record { code = code; params = take (sizeOf (rule code)) (drop 3 (part s (base i) Lengths.block)) } in
+      let a : openAt s i ≡ some o = open-by s i r ∙ with-code code (drop 3 (part s (base i) Lengths.block)) n in
       a ∙ ap {B = Option OpenCommand} (λ ps. some (openOf code ps)) (params-at s i (sizeOf (rule code)) (open-started o a .three))
 
 -- 2. Written ----------------------------------------------------------------------------------------------------------------------------------

@@ -9,6 +9,7 @@ use lib.ListN.{getD, take, drop}
 use lib.Seq.{getD-drop, drop-drop}
 use lib.Dec.{eqb, ltb, lit<, lit≤}
 use borrow.Author.Tests.{lt-ltb, ltb-true}
+use Rattle.model.specs.Lengths as Lengths
 use Rattle.model.specs.declared.Hardware.{Hardware}
 use Rattle.model.specs.declared.Settings.{Settings}
 use Rattle.model.specs.Octets.{Octets, u16, u32}
@@ -23,41 +24,41 @@ use Rattle.model.specs.Proof.Demand3.{state-long}
 -- 1. The blocks of the decoded state ----------------------------------------------------------------------------------------------------------
 
 -- the controller of block i
-controllers-at : (n : ℕ) (o : Octets) (i : ℕ) → i < n → getD (controllersIn n o) i none ≡ controllerIn (part o (4028 * i) 4028)
+controllers-at : (n : ℕ) (o : Octets) (i : ℕ) → i < n → getD (controllersIn n o) i none ≡ controllerIn (part o (Lengths.block * i) Lengths.block)
 unfolding controllersIn part
 controllers-at zero o i l = absurd (omega arith)
 controllers-at (suc n) o zero l = refl
 controllers-at (suc n) o (suc i) l =
-    let e : 4028 * suc i ≡ 4028 + 4028 * i = omega arith in
-    rw (e, ← drop-drop (4028 * i) 4028 o) (controllers-at n (drop 4028 o) i (omega arith))
+    let e : Lengths.block * suc i ≡ Lengths.block + Lengths.block * i = omega arith in
+    rw (e, ← drop-drop (Lengths.block * i) Lengths.block o) (controllers-at n (drop Lengths.block o) i (omega arith))
 
 -- the open command of block i
-opens-at : (n : ℕ) (o : Octets) (i : ℕ) → i < n → getD (opensIn n o) i none ≡ openIn (part o (4028 * i) 4028)
+opens-at : (n : ℕ) (o : Octets) (i : ℕ) → i < n → getD (opensIn n o) i none ≡ openIn (part o (Lengths.block * i) Lengths.block)
 unfolding opensIn part
 opens-at zero o i l = absurd (omega arith)
 opens-at (suc n) o zero l = refl
 opens-at (suc n) o (suc i) l =
-    let e : 4028 * suc i ≡ 4028 + 4028 * i = omega arith in
-    rw (e, ← drop-drop (4028 * i) 4028 o) (opens-at n (drop 4028 o) i (omega arith))
+    let e : Lengths.block * suc i ≡ Lengths.block + Lengths.block * i = omega arith in
+    rw (e, ← drop-drop (Lengths.block * i) Lengths.block o) (opens-at n (drop Lengths.block o) i (omega arith))
 
 -- the octets of block i, from behind the clock and from the start
-block-octets : (s : Octets) (i : ℕ) → part (drop 4 s) (4028 * i) 4028 ≡ part s (base i) 4028
+block-octets : (s : Octets) (i : ℕ) → part (drop 4 s) (Lengths.block * i) Lengths.block ≡ part s (base i) Lengths.block
 unfolding part
-block-octets s i = rw (drop-drop (4028 * i) 4 s)
+block-octets s i = rw (drop-drop (Lengths.block * i) 4 s)
 
 -- the controller of block i of the decoded state
-block-controller : (s : Octets) (i : ℕ) → i < 4 → getD (decode s .plain .controllers) i none ≡ controllerIn (part s (base i) 4028)
+block-controller : (s : Octets) (i : ℕ) → i < 4 → getD (decode s .plain .controllers) i none ≡ controllerIn (part s (base i) Lengths.block)
 unfolding decode
 block-controller s i l = controllers-at 4 (drop 4 s) i l ∙ ap controllerIn (block-octets s i)
 
 -- and its open command
-pub block-open : (s : Octets) (i : ℕ) → i < 4 → openAt s i ≡ openIn (part s (base i) 4028)
+pub block-open : (s : Octets) (i : ℕ) → i < 4 → openAt s i ≡ openIn (part s (base i) Lengths.block)
 unfolding decode openAt
 block-open s i l = opens-at 4 (drop 4 s) i l ∙ ap openIn (block-octets s i)
 
 -- a block's first octet
-first-octet : (s : Octets) (i : ℕ) → getD (part s (base i) 4028) 0 0 ≡ getD s (base i) 0
-first-octet s i = getD-part s (base i) 4028 0 (omega arith) ∙ rw add-zero
+first-octet : (s : Octets) (i : ℕ) → getD (part s (base i) Lengths.block) 0 0 ≡ getD s (base i) 0
+first-octet s i = getD-part s (base i) Lengths.block 0 (omega arith) ∙ rw add-zero
 
 -- by the first octet: a controller
 pub controller-some : (o : Octets) → eqb (getD o 0 0) 1 ≡ true → controllerIn o ≡ some (controllerBack (drop 6 o))
@@ -91,7 +92,7 @@ pub ready : (s : Octets) (i : ℕ) → stateOk s ≡ true → presentAt s i ≡ 
 ready s i ok here = record { ok = ok; here = here; long = state-long s ok; below = present-below s i here }
 
 -- the test of a present index, taken apart
-pub present-octet : (s : Octets) (i : ℕ) → presentAt s i ≡ true → (i < 4) × (eqb (getD (part s (base i) 4028) 0 0) 1 ≡ true)
+pub present-octet : (s : Octets) (i : ℕ) → presentAt s i ≡ true → (i < 4) × (eqb (getD (part s (base i) Lengths.block) 0 0) 1 ≡ true)
 unfolding presentAt
 present-octet s i e = let a = and-true (ltb i 4) _ e in (ltb-true i 4 (a .0), rw (first-octet s i) (a .1))
 
@@ -100,7 +101,7 @@ pub present-slot : (s : Octets) (i : ℕ) → presentAt s i ≡ true → getD (d
 unfolding controllerOf
 present-slot s i e =
     let a = present-octet s i e in
-    block-controller s i (a .0) ∙ controller-some (part s (base i) 4028) (a .1)
+    block-controller s i (a .0) ∙ controller-some (part s (base i) Lengths.block) (a .1)
 
 -- so does the hub
 pub present-controller : (s : Octets) (i : ℕ) → Ready s i → controllerAt (decode s .plain) i ≡ some (controllerOf s i)
@@ -108,17 +109,17 @@ unfolding controllerAt
 present-controller s i r = rw (lt-ltb i 4 (r .below), controllerAt) (present-slot s i (r .here))
 
 -- an absent index below 4: the first octet is not 1
-absent-octet : (s : Octets) (i : ℕ) → i < 4 → presentAt s i ≡ false → eqb (getD (part s (base i) 4028) 0 0) 1 ≡ false
+absent-octet : (s : Octets) (i : ℕ) → i < 4 → presentAt s i ≡ false → eqb (getD (part s (base i) Lengths.block) 0 0) 1 ≡ false
 unfolding presentAt
 absent-octet s i l e = rw (first-octet s i) (rw (lt-ltb i 4 l) at e)
 
 -- no controller
 pub absent-slot : (s : Octets) (i : ℕ) → i < 4 → presentAt s i ≡ false → getD (decode s .plain .controllers) i none ≡ none
-absent-slot s i l e = block-controller s i l ∙ controller-none (part s (base i) 4028) (absent-octet s i l e)
+absent-slot s i l e = block-controller s i l ∙ controller-none (part s (base i) Lengths.block) (absent-octet s i l e)
 
 -- nothing under way
 pub absent-open : (s : Octets) (i : ℕ) → i < 4 → presentAt s i ≡ false → openAt s i ≡ none
-absent-open s i l e = block-open s i l ∙ open-none (part s (base i) 4028) (absent-octet s i l e)
+absent-open s i l e = block-open s i l ∙ open-none (part s (base i) Lengths.block) (absent-octet s i l e)
 
 -- so does the hub, whatever the index
 pub absent-controller : (s : Octets) (i : ℕ) → presentAt s i ≡ false → controllerAt (decode s .plain) i ≡ none
@@ -132,23 +133,23 @@ absent-controller s i e = go (ltb i 4) refl
 -- 3. The parts of a controller ----------------------------------------------------------------------------------------------------------------
 
 -- what stands in the block of a controller stands in the state: an octet
-octet-at : (s : Octets) (b k : ℕ) → k < 4022 → getD (drop 6 (part s b 4028)) k 0 ≡ getD s (b + (6 + k)) 0
-octet-at s b k h = getD-drop 6 (part s b 4028) k 0 ∙ getD-part s b 4028 (6 + k) (omega arith)
+octet-at : (s : Octets) (b k : ℕ) → k < 4022 → getD (drop 6 (part s b Lengths.block)) k 0 ≡ getD s (b + (6 + k)) 0
+octet-at s b k h = getD-drop 6 (part s b Lengths.block) k 0 ∙ getD-part s b Lengths.block (6 + k) (omega arith)
 
 -- a part
-part-at : (s : Octets) (b k n : ℕ) → 6 + k + n ≤ 4028 → take n (drop k (drop 6 (part s b 4028))) ≡ part s (b + (6 + k)) n
+part-at : (s : Octets) (b k n : ℕ) → 6 + k + n ≤ Lengths.block → take n (drop k (drop 6 (part s b Lengths.block))) ≡ part s (b + (6 + k)) n
 unfolding part
-part-at s b k n h = rw (drop-drop k 6 (part s b 4028)) (part-part s b 4028 (6 + k) n h)
+part-at s b k n h = rw (drop-drop k 6 (part s b Lengths.block)) (part-part s b Lengths.block (6 + k) n h)
 
 -- a number of two octets
-u16-at : (s : Octets) (b k : ℕ) → k < 4021 → u16 (drop 6 (part s b 4028)) k ≡ u16 s (b + (6 + k))
+u16-at : (s : Octets) (b k : ℕ) → k < 4021 → u16 (drop 6 (part s b Lengths.block)) k ≡ u16 s (b + (6 + k))
 unfolding u16
 u16-at s b k h =
     let e : b + (6 + (k + 1)) ≡ b + (6 + k) + 1 = omega arith in
     rw (octet-at s b k (omega arith), octet-at s b (k + 1) (omega arith), e)
 
 -- a number of four octets
-u32-at : (s : Octets) (b k : ℕ) → k < 4019 → u32 (drop 6 (part s b 4028)) k ≡ u32 s (b + (6 + k))
+u32-at : (s : Octets) (b k : ℕ) → k < 4019 → u32 (drop 6 (part s b Lengths.block)) k ≡ u32 s (b + (6 + k))
 unfolding u32
 u32-at s b k h =
     let e : b + (6 + (k + 2)) ≡ b + (6 + k) + 2 = omega arith in

@@ -9,6 +9,7 @@ use mathlib.Core.Option.{none, some}
 use lib.ListN.{length, getD, take, drop, set, length-replicate}
 use lib.Seq.{drop-drop, take-take}
 use lib.Dec.{eqb}
+use Rattle.model.specs.Lengths as Lengths
 use Rattle.model.specs.declared.Hardware.{Hardware}
 use Rattle.model.specs.Octets.{Octets}
 use Rattle.model.specs.State.{Table, settingsOf, tableOf, withHost, withTable}
@@ -97,11 +98,11 @@ size-at (suc (suc (suc (suc (suc zero))))) l = refl
 size-at (suc (suc (suc (suc (suc (suc k)))))) l = absurd (omega arith)
 
 -- it lies inside the state
-pub table-fits : (i k : ℕ) → i < 4 → k < 6 → tablePlace i k + (4 + ruleAt k .size * 32) ≤ 16116
+pub table-fits : (i k : ℕ) → i < 4 → k < 6 → tablePlace i k + (4 + ruleAt k .size * 32) ≤ Lengths.state
 unfolding tablePlace placeOf
 table-fits i k l m =
     let n : getD sizes (past5 k) 0 ≡ 4 + ruleAt k .size * 32 = size-at k m in
-    let p : placeAt sizes (past5 k) + getD sizes (past5 k) 0 ≤ 4028 = inside (past5 k) in
+    let p : placeAt sizes (past5 k) + getD sizes (past5 k) 0 ≤ Lengths.block = inside (past5 k) in
     rw (five k) (omega arith)
 
 -- a table whose records all keep a rule of that size has records of that size
@@ -139,7 +140,8 @@ module _ (s : Octets) (i : ℕ) (r : Ready s i) (k : ℕ) (l : k < 6) where
 
   -- another region there is another table
   region-put : (t : Table)
-      → set (pieces (controllerOf s i) (openAt s i)) (past5 k) (region (ruleAt k .size) t) ≡ pieces (withHost (controllerOf s i) (withTable (controllerOf s i .host) k t)) (openAt s i)
+      → set (pieces (controllerOf s i) (openAt s i)) (past5 k) (region (ruleAt k .size) t) ≡ pieces
+      (withHost (controllerOf s i) (withTable (controllerOf s i .host) k t)) (openAt s i)
   unfolding pieces ruleAt withHost withTable settingsOf
   region-put t = rw (region-set (controllerOf s i .radio .hardware) tableRules (controllerOf s i .host .tables) k t tables-fine)
 
@@ -158,16 +160,19 @@ module _ (s : Octets) (i : ℕ) (r : Ready s i) (k : ℕ) (l : k < 6) where
 
   -- a region stored there is another table
   pub table-stored : (t : Table) → length t ≡ 32 → Sized (ruleAt k .size) t
-      → writeAt s (tablePlace i k) (region (ruleAt k .size) t) ≡ encode (putController (decode s) i (withHost (controllerOf s i) (withTable (controllerOf s i .host) k t)))
+      → writeAt s (tablePlace i k) (region (ruleAt k .size) t) ≡ encode
+      (putController (decode s) i (withHost (controllerOf s i) (withTable (controllerOf s i .host) k t)))
   unfolding tablePlace
   table-stored t n z =
       let d = withHost (controllerOf s i) (withTable (controllerOf s i .host) k t) in
-      rw (five k) (controller-changed s i r (past5 k) (region (ruleAt k .size) t) d (omega arith) (length-region (ruleAt k .size) t z n ∙ sym (size-at k l)) (region-put t))
+      rw (five k) (controller-changed s i r (past5 k) (region (ruleAt k .size) t) d (omega arith)
+      (length-region (ruleAt k .size) t z n ∙ sym (size-at k l)) (region-put t))
 
   -- after a valid table is stored
   module _ (t : Table) (n : tableOk (ruleAt k) (controllerOf s i .radio .hardware) t ≡ true) where
     -- the hub has it
-    pub table-written : writeAt s (tablePlace i k) (region (ruleAt k .size) t) ≡ encode (putController (decode s) i (withHost (controllerOf s i) (withTable (controllerOf s i .host) k t)))
+    pub table-written : writeAt s (tablePlace i k) (region (ruleAt k .size) t) ≡ encode
+        (putController (decode s) i (withHost (controllerOf s i) (withTable (controllerOf s i .host) k t)))
     table-written =
         let f = controllerOf s i .radio .hardware in
         table-stored t (table-fit (ruleAt k) f t n .slots) (sized-ok (ruleAt k) f t n)
@@ -179,7 +184,8 @@ module _ (s : Octets) (i : ℕ) (r : Ready s i) (k : ℕ) (l : k < 6) where
         controller-ready s i r (withHost (controllerOf s i) h) (table-changed (controllerOf s i) k t (controller-fine s i r) n) (host-fine s i r h)
 
     -- with the new table
-    pub table-now : controllerOf (encode (putController (decode s) i (withHost (controllerOf s i) (withTable (controllerOf s i .host) k t)))) i ≡ withHost (controllerOf s i) (withTable (controllerOf s i .host) k t)
+    pub table-now : controllerOf (encode (putController (decode s) i (withHost (controllerOf s i) (withTable (controllerOf s i .host) k t))))
+        i ≡ withHost (controllerOf s i) (withTable (controllerOf s i .host) k t)
     table-now =
         let h = withTable (controllerOf s i .host) k t in
         controller-back s i r (withHost (controllerOf s i) h) (table-changed (controllerOf s i) k t (controller-fine s i r) n) (host-fine s i r h)

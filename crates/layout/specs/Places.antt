@@ -6,6 +6,7 @@ use mathlib.Core.List.{List, [], _∷_, _++_}
 use mathlib.Core.Option.{Option, none, some}
 use lib.ListN.{length, getD, drop, set}
 use lib.Dec.{eqb, ltb}
+use Rattle.model.specs.Lengths as Lengths
 use Rattle.model.specs.declared.Hardware.{Hardware}
 use Rattle.model.specs.declared.Settings.{Settings}
 use Rattle.model.specs.Octets.{Octets, le16, le32}
@@ -18,7 +19,7 @@ use Rattle.octets.specs.Parts.{part, placeAt}
 
 -- where block i begins: after the clock, blocks of one length
 abbrev pub base : ℕ → ℕ
-base i = 4 + 4028 * i
+base i = 4 + Lengths.block * i
 
 -- the sizes of a block's pieces: present, open command, hardware, settings, name, six tables
 unfoldable pub sizes : List ℕ
@@ -40,7 +41,7 @@ presentAt s i = ltb i 4 && eqb (getD s (base i) 0) 1
 
 -- the controller that block i holds, if it holds one
 unfoldable pub controllerOf : Octets → ℕ → Controller
-controllerOf s i = controllerBack (drop 6 (part s (base i) 4028))
+controllerOf s i = controllerBack (drop 6 (part s (base i) Lengths.block))
 
 -- the command under way at index i
 unfoldable pub openAt : Octets → ℕ → Option OpenCommand
@@ -80,5 +81,5 @@ withClock h v = record { plain = record { clock = v; controllers = h .plain .con
 pub record Ready (s : Octets) (i : ℕ) : Type 0 where
   pub ok : stateOk s ≡ true
   pub here : presentAt s i ≡ true
-  pub long : length s ≡ 16116
+  pub long : length s ≡ Lengths.state
   pub below : i < 4

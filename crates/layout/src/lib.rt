@@ -1,29 +1,34 @@
 // The lent state read and written: only this crate knows where a part lies. A read says what the model's word for that part is, and a write
 // what hub the state stands for afterwards.
+pub mod places;
+
 ghost use mathlib.Core.Path.{_≡_};
 ghost use mathlib.Core.Bool.{false, true};
 ghost use mathlib.Core.Option.{none, some};
 ghost use Prim.Native.Nat.{_<_, _≤_};
 ghost use lib.ListN.{length};
+ghost use Rattle.model.specs.Lengths as Lengths;
 ghost use Rattle.model.specs.Octets.{u16, usedPart};
 ghost use Rattle.model.specs.State.{flag, namePart, plugged, settingsOf, withHost, withName};
 ghost use Rattle.model.specs.Hub.{withOpen};
 ghost use Rattle.model.specs.Layout.{decode, encode};
 ghost use Rattle.model.specs.Meanings.{stateOk};
-ghost use Rattle.layout.specs.Places.{Ready, base, controllerOf, emptied, hardwareHead, placeOf, presentAt, putController, settingsHead, tablePlace, withClock};
+ghost use Rattle.layout.specs.Places.{Ready, base, controllerOf, emptied, hardwareHead, placeOf, presentAt, putController, settingsHead};
+ghost use Rattle.layout.specs.Places.{tablePlace, withClock};
 ghost use Rattle.rules.specs.Effects.{withSettings};
 use model::Hardware;
 use model::HostSettings;
 use model::RadioSettings;
 use model::Settings;
 use model::Timer;
+use model::lengths;
 
 // Where block i begins.
 fn block_place(i: u64) -> usize
     requires { ⌜ i < 4 ⌝ }
     ensures { λ r. ⌜ r ≡ base i ⌝ }
 {
-    4 + 4028 * (i as usize)
+    4 + lengths::BLOCK * (i as usize)
 }
 
 // Where the open command of index i lies: its code in two octets, then its parameters.
@@ -31,7 +36,7 @@ pub fn open_place(i: u64) -> usize
     requires { ⌜ i < 4 ⌝ }
     ensures { λ r. ⌜ r ≡ placeOf i 1 ⌝ }
 {
-    block_place(i) + 1
+    block_place(i) + places::OPEN_CODE
 }
 
 // Where the name of index i lies: 249 octets, then 11 of the short name.
@@ -39,12 +44,12 @@ pub fn name_place(i: u64) -> usize
     requires { ⌜ i < 4 ⌝ }
     ensures { λ r. ⌜ r ≡ placeOf i 4 ⌝ }
 {
-    block_place(i) + 32
+    block_place(i) + places::NAME
 }
 
 // The used part of a name of index i, of the short name where `which` is not 0: the octets where they lie, nothing is copied.
 pub fn used_name(s: &[u8], i: u64, which: u64) -> &[u8]
-    requires { ⌜ (length (now s) ≡ 16116) × (i < 4) ⌝ }
+    requires { ⌜ (length (now s) ≡ Lengths.state) × (i < 4) ⌝ }
     ensures { λ r. ⌜ (now r ≡ usedPart (namePart which (controllerOf (now (s .entry)) i .host .name))) × (length (now r) ≤ 249) ⌝ }
 {
     let at = name_place(i);
@@ -61,13 +66,13 @@ pub fn table_place(i: u64, k: usize) -> usize
     requires { ⌜ (i < 4) × (k < 6) ⌝ }
     ensures { λ r. ⌜ r ≡ tablePlace i k ⌝ }
 {
-    let places: [usize; 6] = [292, 840, 1644, 2800, 3540, 3768];
-    block_place(i) + places[k]
+    let tables: [usize; 6] = [places::TABLES, 840, 1644, 2800, 3540, 3768];
+    block_place(i) + tables[k]
 }
 
 // Whether index i has a controller.
 pub fn present(s: &[u8], i: u64) -> bool
-    requires { ⌜ length (now s) ≡ 16116 ⌝ }
+    requires { ⌜ length (now s) ≡ Lengths.state ⌝ }
     ensures { λ r. ⌜ r ≡ presentAt (now (s .entry)) i ⌝ }
 {
     if i < 4 {
@@ -79,16 +84,16 @@ pub fn present(s: &[u8], i: u64) -> bool
 
 // What plug gave the controller at index i.
 pub fn hardware_at(s: &[u8], i: u64) -> Hardware
-    requires { ⌜ (length (now s) ≡ 16116) × (i < 4) ⌝ }
+    requires { ⌜ (length (now s) ≡ Lengths.state) × (i < 4) ⌝ }
     ensures { λ r. ⌜ r ≡ controllerOf (now (s .entry)) i .radio .hardware ⌝ }
 {
     let b = block_place(i);
-    let publicAddress = octets::six(s, b + 13);
-    let manufacturer = octets::u16_at(s, b + 7) as u16;
-    let supported = octets::u32_at(s, b + 9) as u32;
+    let publicAddress = octets::six(s, b + places::PUBLIC_ADDRESS);
+    let manufacturer = octets::u16_at(s, b + places::MANUFACTURER) as u16;
+    let supported = octets::u32_at(s, b + places::SUPPORTED) as u32;
     Hardware {
         publicAddress,
-        version: s[b + 6],
+        version: s[b + places::VERSION],
         manufacturer,
         supported,
     }
@@ -96,33 +101,33 @@ pub fn hardware_at(s: &[u8], i: u64) -> Hardware
 
 // All settings of the controller at index i.
 pub fn settings_at(s: &[u8], i: u64) -> Settings
-    requires { ⌜ (length (now s) ≡ 16116) × (i < 4) ⌝ }
+    requires { ⌜ (length (now s) ≡ Lengths.state) × (i < 4) ⌝ }
     ensures { λ r. ⌜ r ≡ settingsOf (controllerOf (now (s .entry)) i) ⌝ }
 {
     let b = block_place(i);
     let hardware = hardware_at(s, i);
-    let staticAddress = octets::six(s, b + 26);
-    let seconds = octets::u16_at(s, b + 24) as u16;
+    let staticAddress = octets::six(s, b + places::STATIC_ADDRESS);
+    let seconds = octets::u16_at(s, b + places::TIMER) as u16;
     let radio = RadioSettings {
         hardware,
-        powered: s[b + 19] == 1,
-        connectable: s[b + 20] == 1,
-        lowEnergy: s[b + 23] == 1,
+        powered: s[b + places::POWERED] == 1,
+        connectable: s[b + places::CONNECTABLE] == 1,
+        lowEnergy: s[b + places::LOW_ENERGY] == 1,
         staticAddress,
     };
     let timer = Timer {
-        discoverable: s[b + 21] == 1,
+        discoverable: s[b + places::DISCOVERABLE] == 1,
         seconds,
     };
     let host = HostSettings {
         timer,
-        bondable: s[b + 22] == 1,
+        bondable: s[b + places::BONDABLE] == 1,
     };
     Settings { radio, host }
 }
 
 // A flag as an octet.
-fn one_if(b: bool) -> u8
+fn flag_octet(b: bool) -> u8
     ensures { λ r. ⌜ r ≡ flag b 1 ⌝ }
 {
     if b { 1 } else { 0 }
@@ -136,11 +141,11 @@ fn settings_head(m: Settings) -> [u8; 7]
     let h = m.host;
     let t = h.timer;
     let n = t.seconds;
-    let p = one_if(r.powered);
-    let k = one_if(r.connectable);
-    let d = one_if(t.discoverable);
-    let b = one_if(h.bondable);
-    let l = one_if(r.lowEnergy);
+    let p = flag_octet(r.powered);
+    let k = flag_octet(r.connectable);
+    let d = flag_octet(t.discoverable);
+    let b = flag_octet(h.bondable);
+    let l = flag_octet(r.lowEnergy);
     [p, k, d, b, l, (n % 256) as u8, (n / 256 % 256) as u8]
 }
 
@@ -153,17 +158,17 @@ pub fn put_settings(s: &mut [u8], i: u64, m: Settings)
     let a = settings_head(m);
     let r = m.radio;
     let staticAddress = r.staticAddress;
-    octets::copy_into(s, b + 19, &a);
-    octets::copy_into(s, b + 26, &staticAddress);
+    octets::copy_into(s, b + places::POWERED, &a);
+    octets::copy_into(s, b + places::STATIC_ADDRESS, &staticAddress);
 }
 
 // The code of the command under way at index i, 0 where there is none.
 pub fn open_code(s: &[u8], i: u64) -> u64
-    requires { ⌜ (length (now s) ≡ 16116) × (i < 4) ⌝ }
+    requires { ⌜ (length (now s) ≡ Lengths.state) × (i < 4) ⌝ }
     ensures { λ r. ⌜ r ≡ u16 (now (s .entry)) (placeOf i 1) ⌝ }
 {
     let b = block_place(i);
-    octets::u16_at(s, b + 1)
+    octets::u16_at(s, b + places::OPEN_CODE)
 }
 
 // Lays a command under way at index i: its code, its parameters, zeros behind them.
@@ -173,9 +178,9 @@ pub fn put_open(s: &mut [u8], i: u64, code: u64, ps: &[u8])
 {
     let b = block_place(i);
     let n = ps.len();
-    octets::put16(s, b + 1, code);
-    octets::copy_into(s, b + 3, ps);
-    octets::zero_fill(s, b + 3 + n, 3 - n);
+    octets::put16(s, b + places::OPEN_CODE, code);
+    octets::copy_into(s, b + places::OPEN_PARAMETERS, ps);
+    octets::zero_fill(s, b + places::OPEN_PARAMETERS + n, 3 - n);
 }
 
 // Nothing is under way at index i any more.
@@ -184,12 +189,12 @@ pub fn clear_open(s: &mut [u8], i: u64)
     ensures { λ _. ⌜ now (s .exit) ≡ encode (withOpen (decode (now (s .entry))) i none) ⌝ }
 {
     let b = block_place(i);
-    octets::zero_fill(s, b + 1, 5);
+    octets::zero_fill(s, b + places::OPEN_CODE, 5);
 }
 
 // The last reading of the clock.
 pub fn clock_at(s: &[u8]) -> u32
-    requires { ⌜ length (now s) ≡ 16116 ⌝ }
+    requires { ⌜ length (now s) ≡ Lengths.state ⌝ }
     ensures { λ r. ⌜ r ≡ decode (now (s .entry)) .plain .clock ⌝ }
 {
     octets::u32_at(s, 0) as u32
@@ -206,10 +211,13 @@ pub fn put_clock(s: &mut [u8], v: u32)
 // Gives the controller at index i the name and short name of ps.
 pub fn put_name(s: &mut [u8], i: u64, ps: &[u8])
     requires { ⌜ Ready (now s) i × (length (now ps) ≡ 260) ⌝ }
-    ensures { λ _. ⌜ now (s .exit) ≡ encode (putController (decode (now (s .entry))) i (withHost (controllerOf (now (s .entry)) i) (withName (controllerOf (now (s .entry)) i .host) (now (ps .entry))))) ⌝ }
+    ensures { λ _. ⌜
+        now (s .exit) ≡ encode (putController (decode (now (s .entry))) i
+        (withHost (controllerOf (now (s .entry)) i) (withName (controllerOf (now (s .entry)) i .host) (now (ps .entry)))))
+        ⌝ }
 {
     let b = block_place(i);
-    octets::copy_into(s, b + 32, ps);
+    octets::copy_into(s, b + places::NAME, ps);
 }
 
 // Empties index i: no controller, and nothing under way.
@@ -218,11 +226,11 @@ pub fn empty_block(s: &mut [u8], i: u64)
     ensures { λ _. ⌜ now (s .exit) ≡ encode (emptied (decode (now (s .entry))) i) ⌝ }
 {
     let b = block_place(i);
-    octets::zero_fill(s, b, 4028);
+    octets::zero_fill(s, b, lengths::BLOCK);
 }
 
 // The hardware but for its address, as it lies.
-fn hardware_head(f: Hardware) -> [u8; 7]
+pub fn hardware_head(f: Hardware) -> [u8; 7]
     ensures { λ r. ⌜ r ≡ hardwareHead f ⌝ }
 {
     let m = f.manufacturer;
@@ -246,9 +254,9 @@ pub fn fill_block(s: &mut [u8], i: u64, f: Hardware)
     let b = block_place(i);
     let h = hardware_head(f);
     let a = f.publicAddress;
-    let l = one_if(f.supported / 512 % 2 == 1);
+    let l = flag_octet(f.supported / 512 % 2 == 1);
     octets::put8(s, b, 1);
-    octets::copy_into(s, b + 6, &h);
-    octets::copy_into(s, b + 13, &a);
-    octets::put8(s, b + 23, l);
+    octets::copy_into(s, b + places::VERSION, &h);
+    octets::copy_into(s, b + places::PUBLIC_ADDRESS, &a);
+    octets::put8(s, b + places::LOW_ENERGY, l);
 }

@@ -3,7 +3,7 @@ use Prim.Native.Nat.{ℕ, _+_}
 use mathlib.Core.Bool.{not}
 use mathlib.Core.List.{List, [], _∷_, _++_, map}
 use Rattle.model.specs.Octets.{Octets}
-use Rattle.model.specs.Reasons.{Check, _⇒_, passes, recordRepeated}
+use Rattle.model.specs.Reasons.{Check, refusedIf, passes, recordRepeated}
 use Rattle.model.specs.Tables.{TableRule, distinct}
 use Rattle.model.specs.Immediate.{recordChecks}
 use Rattle.model.specs.Tables.{ruleAt}
@@ -16,4 +16,4 @@ keyAt packet at k = record { fine = passes (ruleAt k .checks (part packet at (ru
 
 -- the values of a list's records: each record's own, and that none is repeated
 unfoldable pub valueChecks : TableRule → List Octets → List Check
-valueChecks u rs = recordChecks u rs ++ ((not (distinct (map (u .key) rs)) ⇒ recordRepeated) ∷ [])
+valueChecks u rs = recordChecks u rs ++ ((refusedIf (not (distinct (map (u .key) rs))) recordRepeated) ∷ [])

@@ -21,4 +21,4 @@ pub const NOT_POWERED: u8 = 0x0F;
 
 pub const INVALID_INDEX: u8 = 0x11;
 
-pub const HIGHEST: u8 = 0x14;
+pub const HIGHEST: u64 = 0x14;

@@ -16,25 +16,25 @@ unfoldable pub ended : Octets → Outcome → Result Octets
 ended s o = laidOut (keep (decode s) o)
 
 -- a general command, 0x0001 to 0x0003
-unfoldable pub general : Octets → ℕ → ℕ → Octets → (PlainHub → Octets) → Result Octets
-general s i code ps f = ended s (generalOut (decode s .plain) i code ps f)
+unfoldable pub generalCommand : Octets → ℕ → ℕ → Octets → (PlainHub → Octets) → Result Octets
+generalCommand s i code ps f = ended s (generalOut (decode s .plain) i code ps f)
 
 -- a command that is never Busy, to a present index
-unfoldable pub served : Octets → ℕ → ℕ → Octets → ImmediateRule → Result Octets
-served s i code ps q = ended s (immediateAt (decode s .plain) i code ps q (some (controllerOf s i)))
+unfoldable pub immediateCommand : Octets → ℕ → ℕ → Octets → ImmediateRule → Result Octets
+immediateCommand s i code ps q = ended s (immediateAt (decode s .plain) i code ps q (some (controllerOf s i)))
 
 -- a settings command that can be Busy, to a present index
-unfoldable pub contended : Octets → ℕ → ℕ → Octets → RadioRule → Result Octets
-contended s i code ps r = laidOut (commandOut (decode s) i code ps (radioAt (decode s .plain) i code ps r (some (controllerOf s i))) (openAt s i))
+unfoldable pub radioCommand : Octets → ℕ → ℕ → Octets → RadioRule → Result Octets
+radioCommand s i code ps r = laidOut (commandOut (decode s) i code ps (radioAt (decode s .plain) i code ps r (some (controllerOf s i))) (openAt s i))
 
 -- a command by its parts, with whatever is under way
-unfoldable pub dispatched : Octets → ℕ → ℕ → Octets → Result Octets
-dispatched s i code ps = laidOut (commandOut (decode s) i code ps (byRule (decode s .plain) i code ps (rule code)) (openAt s i))
+unfoldable pub anyCommand : Octets → ℕ → ℕ → Octets → Result Octets
+anyCommand s i code ps = laidOut (commandOut (decode s) i code ps (byRule (decode s .plain) i code ps (rule code)) (openAt s i))
 
 -- a report to an index, with room for a reply
 unfoldable pub reported : Octets → ℕ → ℕ → Result Octets
 reported s i status = laidOut (reportOut (decode s) i status (openAt s i))
 
 -- what is told of a name of the controller at an index, with room for it
-unfoldable pub named : Octets → ℕ → ℕ → Result Octets
-named s i which = ended s (nameOut (decode s .plain) which (controllerAt (decode s .plain) i))
+unfoldable pub nameRead : Octets → ℕ → ℕ → Result Octets
+nameRead s i which = ended s (nameOut (decode s .plain) which (controllerAt (decode s .plain) i))

@@ -14,7 +14,7 @@ use borrow.Author.Tests.{eq-eqb, ne-eqb, le-leb, lt-leb, le-ltb, lt-ltb, ltb-tru
 use Rattle.model.specs.Octets.{Octets, octet, allZero, bit, same}
 use Rattle.model.specs.declared.Hardware.{Hardware}
 use Rattle.model.specs.State.{bredrSupported, leSupported, staticRandom}
-use Rattle.model.specs.Reasons.{Check, firstOf, nothing, passes}
+use Rattle.model.specs.Reasons.{Check, firstOf, noReason, passes}
 use Rattle.model.specs.Tables.{TableRule, any, blockedRule, deviceRule, every, identityKeyRule, leAddressChecks, linkKeyRule, longTermKeyRule, needsBredr, needsLe, needsNothing, recordOk, tableRules, uuidRule}
 use Rattle.model.specs.Tables.{ruleAt}
 use Rattle.octets.specs.Parts.{part, length-part, getD-part}
@@ -82,16 +82,16 @@ size-least (suc (suc (suc (suc (suc (suc k)))))) l = absurd (omega arith)
 
 -- one check, and the rest
 pub passes-cons : (c : Check) (cs : List Check) → passes (c ∷ cs) ≡ not (c .fails) && passes cs
-unfolding passes firstOf nothing
+unfolding passes firstOf noReason
 passes-cons c cs = go (c .fails)
   where
-    go : (b : Bool) → nothing (elim b [ true ↦ some (c .reason) | false ↦ firstOf cs ]) ≡ not b && nothing (firstOf cs)
+    go : (b : Bool) → noReason (elim b [ true ↦ some (c .reason) | false ↦ firstOf cs ]) ≡ not b && noReason (firstOf cs)
     go true = refl
     go false = refl
 
 -- without a check nothing fails
 pub passes-none : passes [] ≡ true
-unfolding passes firstOf nothing
+unfolding passes firstOf noReason
 passes-none = refl
 
 -- checks in two parts pass exactly if both parts do
@@ -105,10 +105,10 @@ passes-append (x ∷ xs) ys = passes-cons x (xs ++ ys) ∙ rw (passes-append xs 
 
 -- a check alone passes exactly if it does not fail
 one-check : (c : Check) → passes (c ∷ []) ≡ not (c .fails)
-unfolding passes firstOf nothing
+unfolding passes firstOf noReason
 one-check c = go (c .fails)
   where
-    go : (b : Bool) → nothing (elim b [ true ↦ some (c .reason) | false ↦ none ]) ≡ not b
+    go : (b : Bool) → noReason (elim b [ true ↦ some (c .reason) | false ↦ none ]) ≡ not b
     go true = refl
     go false = refl
 
@@ -266,7 +266,7 @@ module _ (k n : ℕ) (f : Hardware) (e : f .supported ≡ n) where
 
   -- the other tables need nothing
   pub needs-none : k < 6 → (k ≡ 1 → ⊥) → (k ≡ 2 → ⊥) → (k ≡ 3 → ⊥) → true ≡ passes (ruleAt k .support f)
-  unfolding ruleAt tableRules uuidRule blockedRule deviceRule needsNothing passes firstOf nothing
+  unfolding ruleAt tableRules uuidRule blockedRule deviceRule needsNothing passes firstOf noReason
   needs-none l a b d = go k refl
     where
       go : (j : ℕ) → k ≡ j → true ≡ passes (ruleAt j .support f)

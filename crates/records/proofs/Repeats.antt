@@ -11,7 +11,7 @@ use lib.ListN.{getD, drop}
 use lib.Dec.{eqb}
 use borrow.Author.Tests.{eq-eqb, ne-eqb, eqb-true, eqb-false}
 use Rattle.model.specs.Octets.{Octets, octet, bit, same}
-use Rattle.model.specs.Reasons.{nothing}
+use Rattle.model.specs.Reasons.{noReason}
 use Rattle.model.specs.Tables.{TableRule, any, blockedRule, deviceRule, distinct, identityKeyRule, linkKeyRule, longTermKeyRule, tableRules, uuidRule}
 use Rattle.model.specs.Tables.{ruleAt}
 use Rattle.octets.specs.Parts.{part, getD-part}

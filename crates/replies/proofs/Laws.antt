@@ -9,6 +9,7 @@ use mathlib.Core.List.{[], _∷_, _++_, append-assoc, append-nil}
 use lib.ListN.{length, drop, length-append}
 use lib.Dec.{eqb}
 use borrow.Author.Tests.{eq-eqb, ne-eqb}
+use Rattle.model.specs.Events as Events
 use Rattle.model.specs.Octets.{Octets, le16, le32, event, commandComplete, commandStatus}
 use Rattle.model.specs.Hub.{Result}
 use Rattle.octets.specs.Parts.{writeAt, write-split, write-front}
@@ -39,16 +40,16 @@ unfolding event eventHead
 event-is e i ps n l = rw l (simp append-assoc)
 
 -- Command Status is an event with three octets: the command's code and the status
-pub status-is : (i c s : ℕ) → commandStatus i c s ≡ eventHead 0x0002 i 3 ++ (le16 c ++ (s ∷ []))
+pub status-is : (i c s : ℕ) → commandStatus i c s ≡ eventHead Events.commandStatus i 3 ++ (le16 c ++ (s ∷ []))
 unfolding commandStatus le16
-status-is i c s = event-is 0x0002 i (le16 c ++ (s ∷ [])) 3 refl
+status-is i c s = event-is Events.commandStatus i (le16 c ++ (s ∷ [])) 3 refl
 
 -- Command Complete is its head and its return parameters
 pub complete-is : (i c s : ℕ) (ps : Octets) (n : ℕ) → length ps ≡ n → commandComplete i c s ps ≡ completeHead i c s n ++ ps
 unfolding commandComplete completeHead
 complete-is i c s ps n l =
     let m : length (le16 c ++ (s ∷ ps)) ≡ 3 + n = simp (length-append, length-le16) (omega arith) in
-    event-is 0x0001 i (le16 c ++ (s ∷ ps)) (3 + n) m ∙ simp append-assoc
+    event-is Events.commandComplete i (le16 c ++ (s ∷ ps)) (3 + n) m ∙ simp append-assoc
 
 -- an event is six octets longer than its parameters
 pub length-event : (e i : ℕ) (ps : Octets) (n : ℕ) → length ps ≡ n → length (event e i ps) ≡ 6 + n
@@ -59,8 +60,8 @@ pub length-complete : (i c s : ℕ) (ps : Octets) (n : ℕ) → length ps ≡ n 
 length-complete i c s ps n l = rw (complete-is i c s ps n l) (simp (length-append, length-complete-head) (rw l))
 
 -- New Settings is ten octets long
-pub length-new-settings : (i w : ℕ) → length (event 0x0006 i (le32 w)) ≡ 10
-length-new-settings i w = length-event 0x0006 i (le32 w) 4 (length-le32 w)
+pub length-new-settings : (i w : ℕ) → length (event Events.newSettings i (le32 w)) ≡ 10
+length-new-settings i w = length-event Events.newSettings i (le32 w) 4 (length-le32 w)
 
 -- Command Complete with Current_Settings is 13 octets long
 pub length-settings-complete : (i c w : ℕ) → length (commandComplete i c 0 (le32 w)) ≡ 13
@@ -73,7 +74,8 @@ pub then : (d : Octets) (at : ℕ) (a b : Octets) (k : ℕ) → at + length a �
 then d at a b k e = sym (write-split d at a b ∙ rw e)
 
 -- so the head of an event, and its parameters six octets on, are a write of the event
-pub event-write : (d : Octets) (at e i : ℕ) (ps : Octets) (n : ℕ) → length ps ≡ n → writeAt (writeAt d at (eventHead e i n)) (at + 6) ps ≡ writeAt d at (event e i ps)
+pub event-write : (d : Octets) (at e i : ℕ) (ps : Octets) (n : ℕ) → length ps ≡ n
+    → writeAt (writeAt d at (eventHead e i n)) (at + 6) ps ≡ writeAt d at (event e i ps)
 event-write d at e i ps n l = then d at (eventHead e i n) ps (at + 6) (rw length-event-head) ∙ rw (event-is e i ps n l)
 
 -- the same, of Command Complete and its return parameters nine octets on
@@ -89,7 +91,7 @@ unfolding changedEvent
 changed-none i a b e = rw (eq-eqb a b e, changedEvent)
 
 -- where they change, New Settings follows
-pub changed-some : (i a b : ℕ) → (a ≡ b → ⊥) → changedEvent i a b ≡ event 0x0006 i (le32 b)
+pub changed-some : (i a b : ℕ) → (a ≡ b → ⊥) → changedEvent i a b ≡ event Events.newSettings i (le32 b)
 unfolding changedEvent
 changed-some i a b e = rw (ne-eqb a b e, changedEvent)
 
@@ -101,11 +103,11 @@ settings-same d i c old new e = complete-write d 0 i c 0 (le32 new) 4 (length-le
 
 -- what it writes where they change: the same, and New Settings 13 octets on
 pub settings-new : (d : Octets) (i c old new : ℕ) → (old ≡ new → ⊥)
-    → writeAt (writeAt (writeAt d 0 (completeHead i c 0 4)) 9 (le32 new)) 13 (event 0x0006 i (le32 new)) ≡ writeAt d 0 (settingsReply i c old new)
+    → writeAt (writeAt (writeAt d 0 (completeHead i c 0 4)) 9 (le32 new)) 13 (event Events.newSettings i (le32 new)) ≡ writeAt d 0 (settingsReply i c old new)
 unfolding settingsReply
 settings-new d i c old new e =
     rw (complete-write d 0 i c 0 (le32 new) 4 (length-le32 new), changed-some i old new e)
-    (then d 0 (commandComplete i c 0 (le32 new)) (event 0x0006 i (le32 new)) 13 (rw length-settings-complete))
+    (then d 0 (commandComplete i c 0 (le32 new)) (event Events.newSettings i (le32 new)) 13 (rw length-settings-complete))
 
 -- where they stay, the reply is 13 octets long
 pub length-same : (i c old new : ℕ) → old ≡ new → 13 ≡ length (settingsReply i c old new)
@@ -122,14 +124,15 @@ pub settings-short : (i c old new : ℕ) → length (settingsReply i c old new) 
 unfolding settingsReply changedEvent
 settings-short i c old new = go (eqb old new)
   where
-    go : (b : Bool) → length (commandComplete i c 0 (le32 new) ++ elim b [ true ↦ [] | false ↦ event 0x0006 i (le32 new) ]) ≤ 23
+    go : (b : Bool) → length (commandComplete i c 0 (le32 new) ++ elim b [ true ↦ [] | false ↦ event Events.newSettings i (le32 new) ]) ≤ 23
     go true = rw (length-append, length-settings-complete i c new) (omega arith)
     go false = rw (length-append, length-settings-complete i c new, length-new-settings i new) (omega arith)
 
 -- THE REPLY BUFFER ----------------------------------------------------------------------------------------------------------------------------
 
 -- what was written at the front, and behind it the buffer as it was: the field `reply` of Gives
-pub gives-reply : (before after octets : Octets) → length octets ≤ length before → after ≡ writeAt before 0 octets → after ≡ octets ++ drop (length octets) before
+pub gives-reply : (before after octets : Octets) → length octets ≤ length before → after ≡ writeAt before 0 octets
+    → after ≡ octets ++ drop (length octets) before
 gives-reply before after octets h e = e ∙ write-front before octets h
 
 -- a call that writes what the model says at the front of the reply buffer

@@ -4,6 +4,7 @@ use Prim.Native.Nat.{ℕ, _+_}
 use mathlib.Core.Bool.{true, false}
 use mathlib.Core.List.{[], _∷_, _++_}
 use lib.Dec.{eqb}
+use Rattle.model.specs.Events as Events
 use Rattle.model.specs.Octets.{Octets, le16, le32, event, commandComplete}
 
 -- the head of an event: its code, the controller's index, and the length n of the parameters
@@ -12,11 +13,11 @@ eventHead code index n = le16 code ++ (le16 index ++ le16 n)
 
 -- Command Complete up to its n octets of return parameters: the head, the command's code, the status
 unfoldable pub completeHead : ℕ → ℕ → ℕ → ℕ → Octets
-completeHead index code status n = eventHead 0x0001 index (3 + n) ++ (le16 code ++ (status ∷ []))
+completeHead index code status n = eventHead Events.commandComplete index (3 + n) ++ (le16 code ++ (status ∷ []))
 
 -- New Settings, if they changed: of a controller whose Current_Settings were `old` and are `new` (01, Commands, paragraph on events)
 unfoldable pub changedEvent : ℕ → ℕ → ℕ → Octets
-changedEvent index old new = elim (eqb old new) [ true ↦ [] | false ↦ event 0x0006 index (le32 new) ]
+changedEvent index old new = elim (eqb old new) [ true ↦ [] | false ↦ event Events.newSettings index (le32 new) ]
 
 -- what a settings command writes when it acts: a reply with Current_Settings (01, Commands, paragraph on settings), then the event (on events)
 unfoldable pub settingsReply : ℕ → ℕ → ℕ → ℕ → Octets

@@ -2,13 +2,15 @@
 ghost use mathlib.Core.Path.{_≡_};
 ghost use Prim.Native.Nat.{_+_, _≤_};
 ghost use lib.ListN.{length, take};
+ghost use Rattle.model.specs.Events as Events;
 ghost use Rattle.model.specs.Octets.{le32, commandComplete, commandStatus};
-ghost use Rattle.model.specs.Octets as M;
+ghost use Rattle.model.specs.Octets as Octets;
 ghost use Rattle.octets.specs.Parts.{part, writeAt};
-ghost use Rattle.replies.specs.Frames as S;
+ghost use Rattle.replies.specs.Frames as Frames;
 ghost use Rattle.model.specs.Answers.{numberOf, countOf};
 ghost use Rattle.model.specs.declared.Answer.the-variants.{Refused};
 use model::Answer;
+use model::events;
 
 // The number of an answer.
 pub fn number(a: Answer) -> u64
@@ -45,7 +47,7 @@ pub fn count(a: Answer) -> usize
 // The head of an event with n octets of parameters, 6 octets.
 fn event_head(out: &mut [u8], at: usize, code: u64, index: u64, n: u64)
     requires { ⌜ at + 6 ≤ length (now out) ⌝ }
-    ensures { λ _. ⌜ now (out .exit) ≡ writeAt (now (out .entry)) at (S.eventHead code index n) ⌝ }
+    ensures { λ _. ⌜ now (out .exit) ≡ writeAt (now (out .entry)) at (Frames.eventHead code index n) ⌝ }
 {
     octets::put16(out, at, code);
     octets::put16(out, at + 2, index);
@@ -55,9 +57,9 @@ fn event_head(out: &mut [u8], at: usize, code: u64, index: u64, n: u64)
 // Command Complete up to its n octets of return parameters, 9 octets.
 fn complete_head(out: &mut [u8], at: usize, index: u64, code: u64, status: u8, n: usize)
     requires { ⌜ at + 9 + n ≤ length (now out) ⌝ }
-    ensures { λ _. ⌜ now (out .exit) ≡ writeAt (now (out .entry)) at (S.completeHead index code status n) ⌝ }
+    ensures { λ _. ⌜ now (out .exit) ≡ writeAt (now (out .entry)) at (Frames.completeHead index code status n) ⌝ }
 {
-    event_head(out, at, 0x0001, index, (3 + n) as u64);
+    event_head(out, at, events::COMMAND_COMPLETE, index, (3 + n) as u64);
     octets::put16(out, at + 6, code);
     octets::put8(out, at + 8, status);
 }
@@ -67,7 +69,7 @@ pub fn command_status(out: &mut [u8], at: usize, index: u64, code: u64, status: 
     requires { ⌜ at + 9 ≤ length (now out) ⌝ }
     ensures { λ _. ⌜ now (out .exit) ≡ writeAt (now (out .entry)) at (commandStatus index code status) ⌝ }
 {
-    event_head(out, at, 0x0002, index, 3);
+    event_head(out, at, events::COMMAND_STATUS, index, 3);
     octets::put16(out, at + 6, code);
     octets::put8(out, at + 8, status);
 }
@@ -102,7 +104,7 @@ pub fn command_complete_part(
 // An event, 6 octets and the parameters.
 pub fn event(out: &mut [u8], at: usize, code: u64, index: u64, params: &[u8])
     requires { ⌜ at + 6 + length (now params) ≤ length (now out) ⌝ }
-    ensures { λ _. ⌜ now (out .exit) ≡ writeAt (now (out .entry)) at (M.event code index (now (params .entry))) ⌝ }
+    ensures { λ _. ⌜ now (out .exit) ≡ writeAt (now (out .entry)) at (Octets.event code index (now (params .entry))) ⌝ }
 {
     event_head(out, at, code, index, params.len() as u64);
     octets::copy_into(out, at + 6, params);
@@ -119,7 +121,7 @@ pub fn event_part(
     n: usize,
 )
     requires { ⌜ (at + 6 + n ≤ length (now out)) × (from + n ≤ length (now src)) ⌝ }
-    ensures { λ _. ⌜ now (out .exit) ≡ writeAt (now (out .entry)) at (M.event code index (part (now (src .entry)) from n)) ⌝ }
+    ensures { λ _. ⌜ now (out .exit) ≡ writeAt (now (out .entry)) at (Octets.event code index (part (now (src .entry)) from n)) ⌝ }
 {
     event_head(out, at, code, index, n as u64);
     octets::copy_part(out, at + 6, src, from, n);
@@ -128,16 +130,18 @@ pub fn event_part(
 // New Settings, 10 octets.
 pub fn new_settings(out: &mut [u8], at: usize, index: u64, word: u64)
     requires { ⌜ at + 10 ≤ length (now out) ⌝ }
-    ensures { λ _. ⌜ now (out .exit) ≡ writeAt (now (out .entry)) at (M.event 0x0006 index (le32 word)) ⌝ }
+    ensures { λ _. ⌜ now (out .exit) ≡ writeAt (now (out .entry)) at (Octets.event Events.newSettings index (le32 word)) ⌝ }
 {
-    event_head(out, at, 0x0006, index, 4);
+    event_head(out, at, events::NEW_SETTINGS, index, 4);
     octets::put32(out, at + 6, word);
 }
 
 // What a settings command answers when it acts: Command Complete with the settings, then New Settings if they changed. Returns the count of octets.
 pub fn settings_reply(out: &mut [u8], index: u64, code: u64, old: u64, new: u64) -> usize
     requires { ⌜ 23 ≤ length (now out) ⌝ }
-    ensures { λ r. ⌜ (r ≡ length (S.settingsReply index code old new)) × (now (out .exit) ≡ writeAt (now (out .entry)) 0 (S.settingsReply index code old new)) ⌝ }
+    ensures { λ r. ⌜
+        (r ≡ length (Frames.settingsReply index code old new)) × (now (out .exit) ≡ writeAt (now (out .entry)) 0 (Frames.settingsReply index code old new))
+        ⌝ }
 {
     complete_head(out, 0, index, code, 0, 4);
     octets::put32(out, 9, new);

@@ -9,6 +9,7 @@ use lib.ListN.{length, getD, take, drop, set, replicate, drop-of-length-le, leng
 use lib.Seq.{drop-cons}
 use lib.Dec.{eqb, leb}
 use borrow.Author.Tests.{eq-eqb, ne-eqb, le-leb, lt-leb}
+use Rattle.model.specs.Lengths as Lengths
 use Rattle.model.specs.Octets.{Octets, number}
 use Rattle.model.specs.State.{Controller, PlainHub, idle}
 use Rattle.model.specs.Image.{Parsed, load, parseController, parseControllers}
@@ -22,7 +23,8 @@ use Rattle.restore.specs.Checking.{behindOf, endAt, found, onward, scans
 -- 1. The controllers of an image ---------------------------------------------------------------------------------------------------------------------
 
 -- a reader that goes on from a controller
-goes-on : (b : Bool) (c : Option (Parsed Controller)) (g : Parsed Controller → Option (List (Option Controller))) (h : Octets → Bool) → ((x : Parsed Controller) → found (g x) ≡ h (x .behind))
+goes-on : (b : Bool) (c : Option (Parsed Controller)) (g : Parsed Controller → Option (List (Option Controller))) (h : Octets → Bool)
+    → ((x : Parsed Controller) → found (g x) ≡ h (x .behind))
     → found {A = List (Option Controller)} (elim b [ true ↦ elim c [ none ↦ none | some x ↦ g x ] | false ↦ none ]) ≡ b && onward h (behindOf c)
 unfolding found onward behindOf
 goes-on true none g h k = refl
@@ -51,11 +53,14 @@ made-found false cs = refl
 
 module _ (image : Octets) where
   -- length, version, controllers
-  accepted-is : accepted image ≡ (leb 6 (length image) && (eqb (number 0 (take 4 image)) (length image) && eqb (getD image 4 0) 1)) && scans (getD image 5 0) 0 (drop 6 image)
+  accepted-is : accepted image ≡ (leb 6 (length image) && (eqb (number 0 (take 4 image)) (length image) && eqb (getD image 4 0) 1))
+      && scans (getD image 5 0) 0 (drop 6 image)
   unfolding accepted load
   accepted-is =
-      made-found (leb 6 (length image) && (eqb (number 0 (take 4 image)) (length image) && eqb (getD image 4 0) 1)) (parseControllers (getD image 5 0) 0 (replicate 4 none) (drop 6 image))
-      ∙ ap (λ (q : Bool). (leb 6 (length image) && (eqb (number 0 (take 4 image)) (length image) && eqb (getD image 4 0) 1)) && q) (controllers-scan (getD image 5 0) 0 (replicate 4 none) (drop 6 image))
+      made-found (leb 6 (length image) && (eqb (number 0 (take 4 image)) (length image) && eqb (getD image 4 0) 1))
+      (parseControllers (getD image 5 0) 0 (replicate 4 none) (drop 6 image))
+      ∙ ap (λ (q : Bool). (leb 6 (length image) && (eqb (number 0 (take 4 image)) (length image) && eqb (getD image 4 0) 1)) && q)
+      (controllers-scan (getD image 5 0) 0 (replicate 4 none) (drop 6 image))
 
   -- too short
   pub image-short : length image < 6 → false ≡ accepted image
@@ -71,12 +76,16 @@ module _ (image : Octets) where
       -- another version
       pub image-version : (getD image 4 0 ≡ 1 → ⊥) → false ≡ accepted image
       unfolding part
-      image-version b = let e : n ≡ number 0 (take 4 image) = en in sym (accepted-is ∙ rw (le-leb 6 (length image) l, ← e, eq-eqb n (length image) a, ne-eqb (getD image 4 0) 1 b))
+      image-version b =
+          let e : n ≡ number 0 (take 4 image) = en in
+          sym (accepted-is ∙ rw (le-leb 6 (length image) l, ← e, eq-eqb n (length image) a, ne-eqb (getD image 4 0) 1 b))
 
       -- the controllers decide
       pub image-rest : getD image 4 0 ≡ 1 → (r : Bool) → r ≡ scans (getD image 5 0) 0 (drop 6 image) → r ≡ accepted image
       unfolding part
-      image-rest b r q = let e : n ≡ number 0 (take 4 image) = en in q ∙ sym (accepted-is ∙ rw (le-leb 6 (length image) l, ← e, eq-eqb n (length image) a, eq-eqb (getD image 4 0) 1 b))
+      image-rest b r q =
+          let e : n ≡ number 0 (take 4 image) = en in
+          q ∙ sym (accepted-is ∙ rw (le-leb 6 (length image) l, ← e, eq-eqb n (length image) a, eq-eqb (getD image 4 0) 1 b))
 
 -- a test goes on at a place that is not 0
 on-place : (image : Octets) (s : Octets → Bool) (q : ℕ) → (q ≡ 0 → ⊥) → s (drop q image) ≡ onward s (endAt image q)
@@ -98,7 +107,8 @@ module _ (image : Octets) (x : Bool) (n low p : ℕ) (l : 0 < n) (g : scans n lo
 
   module _ (a : p < length image) where
     -- the tests of the next
-    scan-is : (leb low (getD image p 0) && leb (getD image p 0) 3) && onward (scans (n - 1) (suc (getD image p 0))) (behindOf (parseController (drop (suc p) image))) ≡ x
+    scan-is : (leb low (getD image p 0) && leb (getD image p 0) 3)
+        && onward (scans (n - 1) (suc (getD image p 0))) (behindOf (parseController (drop (suc p) image))) ≡ x
     unfolding scans
     scan-is = (rw (more, drop-cons image p 0 a) at g)
 
@@ -123,7 +133,8 @@ module _ (image : Octets) (x : Bool) (n low p : ℕ) (l : 0 < n) (g : scans n lo
 
         -- the next lies behind it
         pub scan-turn : (q ≡ 0 → ⊥) → scans (n - 1) (getD image p 0 + 1) (drop q image) ≡ x
-        scan-turn z = let e : getD image p 0 + 1 ≡ suc (getD image p 0) = omega arith in rw e (on-place image (scans (n - 1) (suc (getD image p 0))) q z ∙ scan-on)
+        scan-turn z =
+            let e : getD image p 0 + 1 ≡ suc (getD image p 0) = omega arith in rw e (on-place image (scans (n - 1) (suc (getD image p 0))) q z ∙ scan-on)
 
 -- no controller, and nothing left over
 scan-none : (n low : ℕ) (o : Octets) → n ≡ 0 → scans n low o ≡ eqb (length o) 0
@@ -154,19 +165,19 @@ refused s (some p) e = no-way e
 
 module _ (s image : Octets) where
   -- a state buffer of another length
-  pub load-length : (length s ≡ 16116 → ⊥) → hubLoad s image ≡ record { answer = 5; octets = []; state = s }
+  pub load-length : (length s ≡ Lengths.state → ⊥) → hubLoad s image ≡ record { answer = 5; octets = []; state = s }
   unfolding hubLoad badState loadMeaning
-  load-length a = rw (ne-eqb (length s) 16116 a, loadMeaning)
+  load-length a = rw (ne-eqb (length s) Lengths.state a, loadMeaning)
 
   -- an image that is not acceptable
-  pub load-refused : length s ≡ 16116 → accepted image ≡ false → hubLoad s image ≡ record { answer = 7; octets = []; state = s }
+  pub load-refused : length s ≡ Lengths.state → accepted image ≡ false → hubLoad s image ≡ record { answer = 7; octets = []; state = s }
   unfolding hubLoad accepted loadMeaning
-  load-refused l a = rw (eq-eqb (length s) 16116 l, loadMeaning) (refused s (load image) a)
+  load-refused l a = rw (eq-eqb (length s) Lengths.state l, loadMeaning) (refused s (load image) a)
 
   -- an acceptable one
-  pub load-done : length s ≡ 16116 → accepted image ≡ true → (t : Octets) → ((p : PlainHub) → load image ≡ some p → t ≡ encode (idle p))
+  pub load-done : length s ≡ Lengths.state → accepted image ≡ true → (t : Octets) → ((p : PlainHub) → load image ≡ some p → t ≡ encode (idle p))
       → hubLoad s image ≡ record { answer = 0; octets = []; state = t }
   unfolding hubLoad accepted loadedInto loadMeaning
   load-done l a t h =
       let q = found-some (load image) a in
-      rw (eq-eqb (length s) 16116 l, loadMeaning, q .1, ← h (q .0) (q .1))
+      rw (eq-eqb (length s) Lengths.state l, loadMeaning, q .1, ← h (q .0) (q .1))

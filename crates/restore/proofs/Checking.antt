@@ -15,7 +15,8 @@ use Rattle.model.specs.declared.Settings.{Settings}
 use Rattle.model.specs.Octets.{Octets, bit, number, octet}
 use Rattle.model.specs.State.{Controller, Table, flag, nameEnds, noTimer, shortNameEnds}
 use Rattle.model.specs.Reasons.{passes}
-use Rattle.model.specs.Tables.{TableRule, chop, empty, loaded, recordsOk, supportOk, tableRules, uuidRule, linkKeyRule, longTermKeyRule, identityKeyRule, blockedRule, deviceRule}
+use Rattle.model.specs.Tables.{TableRule, chop, empty, loaded, recordsOk, supportOk, tableRules, uuidRule, linkKeyRule, longTermKeyRule}
+use Rattle.model.specs.Tables.{identityKeyRule, blockedRule, deviceRule}
 use Rattle.model.specs.Image.{Parsed, controllerThen, flagsOk, nameOk, parseController, parseRadio, parseTables, radioOk, tableThen}
 use Rattle.model.specs.Tables.{ruleAt}
 use Rattle.records.specs.Slots.{recordsAt, list-records}
@@ -56,7 +57,10 @@ size-room k z n l e m = let q : z ≤ 36 = rw e (size-most k l) in let a : z * n
 
 -- what goes on from tables leaves what they leave, if a test holds
 then-behind : {A : Type 0} (b : Bool) (made : List Table → A) (more : Option (Parsed (List Table)))
-    → behindOf {A = A} (elim b [ true ↦ elim more [ none ↦ none | some m ↦ some (record { value = made (m .value); behind = m .behind }) ] | false ↦ none ]) ≡ keptIf b (behindOf more)
+    → behindOf {A = A} (elim b [
+      | true ↦ elim more [ none ↦ none | some m ↦ some (record { value = made (m .value); behind = m .behind }) ]
+      | false ↦ none
+    ]) ≡ keptIf b (behindOf more)
 unfolding behindOf keptIf
 then-behind true made none = refl
 then-behind true made (some m) = refl
@@ -83,7 +87,9 @@ module _ (u : TableRule) (f : Hardware) (us : List TableRule) (image : Octets) (
   -- the tests of the table at a place
   pub table-is : p < length image
       → behindOf (parseTables f (u ∷ us) (drop p image))
-      ≡ keptIf (leb (getD image p 0) 32 && (leb (u .size * getD image p 0) (length image - p - 1) && (recordsOk u (recordsAt image (u .size) (p + 1) (getD image p 0) (2 ^ getD image p 0 - 1)) && (eqb (getD image p 0) 0 || passes (u .support f)))))
+      ≡ keptIf (leb (getD image p 0) 32 && (leb (u .size * getD image p 0) (length image - p - 1)
+      && (recordsOk u (recordsAt image (u .size) (p + 1) (getD image p 0) (2 ^ getD image p 0 - 1))
+      && (eqb (getD image p 0) 0 || passes (u .support f)))))
       (tablesFrom f us image (p + 1 + u .size * getD image p 0))
   unfolding parseTables supportOk
   table-is l =
@@ -93,7 +99,8 @@ module _ (u : TableRule) (f : Hardware) (us : List TableRule) (image : Octets) (
       let j : 0 < p + 1 + u .size * n = omega arith in
       let d : drop (u .size * n) (drop (p + 1) image) ≡ drop (p + 1 + u .size * n) image = drop-drop (u .size * n) (p + 1) image in
       let t = table-then u f n (drop (suc p) image) (chop (u .size) n (drop (suc p) image)) (parseTables f us (drop (u .size * n) (drop (suc p) image))) in
-      rw (drop-cons image p 0 l, tables-from f us image (p + 1 + u .size * n) j, ← d, e, list-records (u .size) n (drop (suc p) image)) (rw (g, none-chopped (u .size) n (drop (suc p) image)) at t)
+      rw (drop-cons image p 0 l, tables-from f us image (p + 1 + u .size * n) j, ← d, e, list-records (u .size) n (drop (suc p) image))
+      (rw (g, none-chopped (u .size) n (drop (suc p) image)) at t)
 
   module _ (l : p < length image) where
     -- too many records
@@ -109,22 +116,26 @@ module _ (u : TableRule) (f : Hardware) (us : List TableRule) (image : Octets) (
 
       module _ (b : u .size * getD image p 0 ≤ length image - p - 1) (w : ℕ) (ew : w ≡ 2 ^ getD image p 0 - 1) where
         -- records against their rule
-        pub table-breaks : recordsOk u (recordsAt image (u .size) (p + 1) (getD image p 0) w) ≡ false → behindOf (parseTables f (u ∷ us) (drop p image)) ≡ tablesFrom f us image 0
+        pub table-breaks : recordsOk u (recordsAt image (u .size) (p + 1) (getD image p 0) w) ≡ false
+            → behindOf (parseTables f (u ∷ us) (drop p image)) ≡ tablesFrom f us image 0
         unfolding keptIf tablesFrom
         table-breaks c = table-is l ∙ rw (le-leb (getD image p 0) 32 a, le-leb (u .size * getD image p 0) (length image - p - 1) b, rw ew at c)
 
         module _ (c : recordsOk u (recordsAt image (u .size) (p + 1) (getD image p 0) w) ≡ true) where
           -- the tests that it passed
-          passed : behindOf (parseTables f (u ∷ us) (drop p image)) ≡ keptIf (eqb (getD image p 0) 0 || passes (u .support f)) (tablesFrom f us image (p + 1 + u .size * getD image p 0))
+          passed : behindOf (parseTables f (u ∷ us) (drop p image)) ≡ keptIf (eqb (getD image p 0) 0 || passes (u .support f))
+              (tablesFrom f us image (p + 1 + u .size * getD image p 0))
           passed = table-is l ∙ rw (le-leb (getD image p 0) 32 a, le-leb (u .size * getD image p 0) (length image - p - 1) b, rw ew at c)
 
           -- records without support
-          pub table-unsupported : (getD image p 0 ≡ 0 → ⊥) → passes (u .support f) ≡ false → behindOf (parseTables f (u ∷ us) (drop p image)) ≡ tablesFrom f us image 0
+          pub table-unsupported : (getD image p 0 ≡ 0 → ⊥) → passes (u .support f) ≡ false
+              → behindOf (parseTables f (u ∷ us) (drop p image)) ≡ tablesFrom f us image 0
           unfolding keptIf tablesFrom
           table-unsupported z d = passed ∙ rw (ne-eqb (getD image p 0) 0 z, d)
 
           -- records with support
-          pub table-supported : (getD image p 0 ≡ 0 → ⊥) → passes (u .support f) ≡ true → (q : ℕ) → q ≡ u .size → behindOf (parseTables f (u ∷ us) (drop p image)) ≡ tablesFrom f us image (p + 1 + q * getD image p 0)
+          pub table-supported : (getD image p 0 ≡ 0 → ⊥) → passes (u .support f) ≡ true → (q : ℕ) → q ≡ u .size
+              → behindOf (parseTables f (u ∷ us) (drop p image)) ≡ tablesFrom f us image (p + 1 + q * getD image p 0)
           unfolding keptIf
           table-supported z d q e = passed ∙ rw (ne-eqb (getD image p 0) 0 z, d, e)
 
@@ -137,7 +148,8 @@ module _ (u : TableRule) (f : Hardware) (us : List TableRule) (image : Octets) (
 
 -- tables k and on lie at place p of the image: what they leave is what all leave from their place on
 pub record TablesGo (image : Octets) (place s k p : ℕ) : Type 0 where
-  pub known : (f : Hardware) → f .supported ≡ s → behindOf (parseTables f (drop k tableRules) (drop p image)) ≡ behindOf (parseTables f tableRules (drop place image))
+  pub known : (f : Hardware) → f .supported ≡ s
+      → behindOf (parseTables f (drop k tableRules) (drop p image)) ≡ behindOf (parseTables f tableRules (drop place image))
 
 -- at first, all lie at their place
 pub go-first : (image : Octets) (place s : ℕ) → TablesGo image place s 0 place
@@ -166,7 +178,8 @@ unfolding tableRules
 no-rules k l = drop-of-length-le tableRules {i = k} l
 
 -- all are taken off
-pub go-last : (image : Octets) (place s k p : ℕ) → 6 ≤ k → 0 < p → TablesGo image place s k p → (f : Hardware) → f .supported ≡ s → behindOf (parseTables f tableRules (drop place image)) ≡ endAt image p
+pub go-last : (image : Octets) (place s k p : ℕ) → 6 ≤ k → 0 < p → TablesGo image place s k p → (f : Hardware) → f .supported ≡ s
+    → behindOf (parseTables f tableRules (drop place image)) ≡ endAt image p
 unfolding endAt parseTables behindOf
 go-last image place s k zero l z x f e = absurd (omega arith)
 go-last image place s k (suc p) l z x f e = sym (rw (no-rules k l) at (x .known f e))
@@ -195,7 +208,8 @@ name-is image at =
 
 module _ (image : Octets) (at n : ℕ) (e : n ≡ number 0 (part image (at + 13) 4)) where
   -- the tests of flags and name, in the octets where they lie
-  fixed-is : fixedOk image at ≡ eqb n (n / 2 % 2 * 2 + n / 16 % 2 * 16 + n / 512 % 2 * 512) && (eqb (getD image (at + 271) 0) 0 && eqb (getD image (at + 282) 0) 0)
+  fixed-is : fixedOk image at ≡ eqb n (n / 2 % 2 * 2 + n / 16 % 2 * 16 + n / 512 % 2 * 512)
+      && (eqb (getD image (at + 271) 0) 0 && eqb (getD image (at + 282) 0) 0)
   unfolding fixedOk
   fixed-is = rw (← e, flags-is n, name-is image at)
 
@@ -220,20 +234,24 @@ first-test false x = refl
 
 -- the tests of a controller
 controller-is : (o : Octets) → behindOf (parseController o)
-    ≡ keptIf (leb 283 (length o)) (keptIf (radioOk (parseRadio o) && (flagsOk (number 0 (take 4 (drop 13 o))) && nameOk (take 260 (drop 23 o)))) (behindOf (parseTables (parseRadio o .hardware) tableRules (drop 283 o))))
+    ≡ keptIf (leb 283 (length o)) (keptIf (radioOk (parseRadio o) && (flagsOk (number 0 (take 4 (drop 13 o))) && nameOk (take 260 (drop 23 o))))
+    (behindOf (parseTables (parseRadio o .hardware) tableRules (drop 283 o))))
 unfolding parseController controllerThen
 controller-is o =
     let r = parseRadio o in
     let flags : ℕ = number 0 (take 4 (drop 13 o)) in
     let name : Octets = take 260 (drop 23 o) in
     let tables : Option (Parsed (List Table)) = parseTables (r .hardware) tableRules (drop 283 o) in
-    let made : List Table → Controller = λ ts. record { radio = r; host = record { settings = record { timer = noTimer; bondable = bit 4 flags }; name = name; tables = ts } } in
-    first-test (leb 283 (length o)) (controllerThen r flags name tables) ∙ ap (keptIf (leb 283 (length o))) (then-behind (radioOk r && (flagsOk flags && nameOk name)) made tables)
+    let made : List Table → Controller = λ ts. record
+    { radio = r; host = record { settings = record { timer = noTimer; bondable = bit 4 flags }; name = name; tables = ts } } in
+    first-test (leb 283 (length o)) (controllerThen r flags name tables)
+    ∙ ap (keptIf (leb 283 (length o))) (then-behind (radioOk r && (flagsOk flags && nameOk name)) made tables)
 
 module _ (image : Octets) (at : ℕ) where
   -- the same at a place of the image
   controller-at : behindOf (parseController (drop at image))
-      ≡ keptIf (leb 283 (length image - at)) (keptIf (radioOk (parseRadio (drop at image)) && fixedOk image at) (behindOf (parseTables (parseRadio (drop at image) .hardware) tableRules (drop (at + 283) image))))
+      ≡ keptIf (leb 283 (length image - at)) (keptIf (radioOk (parseRadio (drop at image)) && fixedOk image at)
+      (behindOf (parseTables (parseRadio (drop at image) .hardware) tableRules (drop (at + 283) image))))
   unfolding fixedOk part
   controller-at =
       let t = controller-is (drop at image) in

@@ -39,7 +39,14 @@ use Rattle.model.specs.Proof.Stays.{plugged-ok}
 unfoldable pub settingsFrom : Octets → ℕ → Settings
 settingsFrom image at = record {
   radio = record {
-    hardware = record { publicAddress = part image at 6; version = getD image (at + 6) 0; manufacturer = number 0 (part image (at + 7) 2); supported = number 0 (part image (at + 9) 4) };
+    hardware =
+        record {
+          publicAddress = part image at 6;
+          version = getD image (at + 6) 0;
+          manufacturer = number 0 (part image (at + 7) 2);
+          supported = number
+              0 (part image (at + 9) 4);
+        };
     powered = false;
     connectable = eqb (number 0 (part image (at + 13) 4) / 2 % 2) 1;
     lowEnergy = eqb (number 0 (part image (at + 13) 4) / 512 % 2) 1;
@@ -79,7 +86,8 @@ one-controller o c w e =
     let tables : Option (Parsed (List Table)) = parseTables (r .hardware) tableRules (drop 283 o) in
     let g = tested (leb 283 (length o)) _ c e in
     let a = tested (radioOk r && (flagsOk flags && nameOk name)) _ c (g .1) in
-    let made : List Table → Controller = λ ts. record { radio = r; host = record { settings = record { timer = noTimer; bondable = bit 4 flags }; name = name; tables = ts } } in
+    let made : List Table → Controller = λ ts. record
+    { radio = r; host = record { settings = record { timer = noTimer; bondable = bit 4 flags }; name = name; tables = ts } } in
     let b = then tables (λ t. some (record { value = made (t .value); behind = t .behind })) c (a .1) in
     let p : record { value = made (b .0 .value); behind = b .0 .behind } ≡ c = cc in
     record {
@@ -93,7 +101,8 @@ one-controller o c w e =
     }
 
 -- a valid controller with another name and no tables is valid
-pub bare-fine : (c : Controller) (n : Octets) → controllerOk c ≡ true → controllerOk (plugged (c .radio .hardware)) ≡ true → eqb (length n) 260 && nameOk n ≡ true → bytes n ≡ true
+pub bare-fine : (c : Controller) (n : Octets) → controllerOk c ≡ true → controllerOk (plugged (c .radio .hardware)) ≡ true → eqb (length n) 260
+    && nameOk n ≡ true → bytes n ≡ true
     → controllerOk (record { radio = c .radio; host = record { settings = c .host .settings; name = n; tables = noTables } }) ≡ true
 unfolding plugged timerOk
 bare-fine c n e k z b =
@@ -107,11 +116,25 @@ bare-fine c n e k z b =
       name = z;
       tables = g .tables;
       timer = f .timer;
-      widths = fit-widths d (record { version = x .version; manufacturer = x .manufacturer; publicAddress = x .publicAddress; staticAddress = x .staticAddress; name = b; seconds = x .seconds });
+      widths =
+          fit-widths d (record {
+            version = x .version;
+            manufacturer = x .manufacturer;
+            publicAddress = x .publicAddress;
+            staticAddress =
+                x .staticAddress;
+            name = b;
+            seconds = x .seconds;
+          });
     })
 
 -- a controller with tables from place k on has those in the places of the others
-with-tables : (c : Controller) (k : ℕ) (ts : List Table) → withTables c k ts ≡ record { radio = c .radio; host = record { settings = c .host .settings; name = c .host .name; tables = sets (c .host .tables) k ts } }
+with-tables : (c : Controller) (k : ℕ) (ts : List Table)
+    → withTables c k ts ≡ record {
+      radio = c .radio;
+      host = record
+          { settings = c .host .settings; name = c .host .name; tables = sets (c .host .tables) k ts };
+    }
 unfolding withTables withHost withTable
 with-tables c k [] = refl
 with-tables c k (t ∷ ts) = with-tables (withHost c (withTable (c .host) k t)) (suc k) ts
@@ -136,7 +159,8 @@ hardware-wide : (c : Controller) → controllerOk c ≡ true → hardwareWide (c
 unfolding hardwareWide
 hardware-wide c e = let x = widths-fit c e in both (both (x .version) (x .manufacturer)) (x .publicAddress)
 
-module _ (s₀ : Octets) (i : ℕ) (o : Octets) (c : Parsed Controller) (ok : stateOk s₀ ≡ true) (l : i < 4) (gone : presentAt s₀ i ≡ false) (y : OneController o c) where
+module _ (s₀ : Octets) (i : ℕ) (o : Octets) (c : Parsed Controller) (ok : stateOk s₀ ≡ true) (l : i < 4) (gone : presentAt s₀ i ≡ false)
+    (y : OneController o c) where
   -- the controller that was read
   read-fine : controllerOk (controllerWith o (take 260 (drop 23 o)) (y .tables .value)) ≡ true
   read-fine = rw (y .value) (y .fine)
@@ -152,29 +176,35 @@ module _ (s₀ : Octets) (i : ℕ) (o : Octets) (c : Parsed Controller) (ok : st
   address-six = equal _ _ (and-true (eqb (length (parseRadio o .hardware .publicAddress)) 6) _ (y .hardware) .0)
 
   -- after the hardware
-  pub hardware-held : (s : Octets) → s ≡ encode (putController (decode s₀) i (plugged (parseRadio o .hardware))) → Holds (decode s₀) i s (plugged (parseRadio o .hardware))
+  pub hardware-held : (s : Octets) → s ≡ encode (putController (decode s₀) i (plugged (parseRadio o .hardware)))
+      → Holds (decode s₀) i s (plugged (parseRadio o .hardware))
   unfolding openAt underWay
   hardware-held s e = record { well = state-well s₀ ok; below = l; idle = absent-open s₀ i l gone; fine = plug-fine; state = e }
 
   -- after the settings
-  pub settings-held : (s t : Octets) → Holds (decode s₀) i s (plugged (parseRadio o .hardware)) → t ≡ encode (putController (decode s) i (withSettings (controllerOf s i) (imageSettings o)))
+  pub settings-held : (s t : Octets) → Holds (decode s₀) i s (plugged (parseRadio o .hardware))
+      → t ≡ encode (putController (decode s) i (withSettings (controllerOf s i) (imageSettings o)))
       → Holds (decode s₀) i t (controllerWith o (replicate 260 0) noTables)
   unfolding withSettings plugged controllerWith imageSettings parseRadio
   settings-held s t x e =
       let d : Controller = controllerWith o (replicate 260 0) noTables in
-      let k : controllerOk d ≡ true = bare-fine (controllerWith o (take 260 (drop 23 o)) (y .tables .value)) (replicate 260 0) read-fine plug-fine (controller-fit (plugged (parseRadio o .hardware)) plug-fine .name) (widths-fit (plugged (parseRadio o .hardware)) plug-fine .name) in
+      let k : controllerOk d ≡ true = bare-fine (controllerWith o (take 260 (drop 23 o)) (y .tables .value)) (replicate 260 0) read-fine plug-fine
+      (controller-fit (plugged (parseRadio o .hardware)) plug-fine .name) (widths-fit (plugged (parseRadio o .hardware)) plug-fine .name) in
       let b : controllerOf s i ≡ plugged (parseRadio o .hardware) = held-controller (decode s₀) i s (plugged (parseRadio o .hardware)) x in
       held-put (decode s₀) i s (plugged (parseRadio o .hardware)) x t d k (rw b at e)
 
   -- after the name
   pub name-held : (s t n : Octets) → n ≡ take 260 (drop 23 o) → Holds (decode s₀) i s (controllerWith o (replicate 260 0) noTables)
-      → t ≡ encode (putController (decode s) i (withHost (controllerOf s i) (withName (controllerOf s i .host) n))) → Holds (decode s₀) i t (controllerWith o (take 260 (drop 23 o)) noTables)
+      → t ≡ encode (putController (decode s) i (withHost (controllerOf s i) (withName (controllerOf s i .host) n)))
+      → Holds (decode s₀) i t (controllerWith o (take 260 (drop 23 o)) noTables)
   unfolding withHost withName controllerWith
   name-held s t n q x e =
       let v : Controller = controllerWith o (take 260 (drop 23 o)) (y .tables .value) in
       let d : Controller = controllerWith o (take 260 (drop 23 o)) noTables in
-      let k : controllerOk d ≡ true = bare-fine v (take 260 (drop 23 o)) read-fine plug-fine (controller-fit v read-fine .name) (widths-fit v read-fine .name) in
-      let b : controllerOf s i ≡ controllerWith o (replicate 260 0) noTables = held-controller (decode s₀) i s (controllerWith o (replicate 260 0) noTables) x in
+      let k : controllerOk d ≡ true = bare-fine v (take 260 (drop 23 o)) read-fine plug-fine (controller-fit v read-fine .name)
+      (widths-fit v read-fine .name) in
+      let b : controllerOf s i ≡ controllerWith o (replicate 260 0) noTables = held-controller (decode s₀) i s
+      (controllerWith o (replicate 260 0) noTables) x in
       held-put (decode s₀) i s (controllerWith o (replicate 260 0) noTables) x t d k (rw (b, q) at e)
 
   -- then the tables may be read
@@ -191,7 +221,8 @@ module _ (s₀ : Octets) (i : ℕ) (o : Octets) (c : Parsed Controller) (ok : st
       let d : Controller = controllerWith o (take 260 (drop 23 o)) noTables in
       let v : Controller = controllerWith o (take 260 (drop 23 o)) (y .tables .value) in
       let b : controllerOf s i ≡ d = held-controller (decode s₀) i s d x in
-      let z : withTables d 0 (y .tables .value) ≡ c .value = six-tables (parseRadio o .hardware) d (y .tables .value) (controller-fit v read-fine .tables) refl ∙ y .value in
+      let z : withTables d 0 (y .tables .value) ≡ c .value = six-tables (parseRadio o .hardware) d (y .tables .value)
+      (controller-fit v read-fine .tables) refl ∙ y .value in
       held-put (decode s₀) i s d x t (c .value) (y .fine) (rw (b, z) at e) .state
 
 -- 4. The controller at a place of an image ---------------------------------------------------------------------------------------------------------------------
@@ -241,38 +272,46 @@ module _ (s₀ : Octets) (i : ℕ) (image : Octets) (at : ℕ) (g : Awaited s₀
 
       module _ (s₂ : Octets) (e₂ : s₂ ≡ encode (putController (decode s₁) i (withSettings (controllerOf s₁ i) m))) where
         -- after the settings
-        after-settings : (c : Parsed Controller) → OneController (drop at image) c → Holds (decode s₀) i s₂ (controllerWith (drop at image) (replicate 260 0) noTables)
+        after-settings : (c : Parsed Controller) → OneController (drop at image) c
+            → Holds (decode s₀) i s₂ (controllerWith (drop at image) (replicate 260 0) noTables)
         after-settings c y = settings-held s₀ i (drop at image) c (g .ok) (g .below) (g .gone) y s₁ s₂ (after-hardware c y) (rw em at e₂)
 
         -- the name may be written
         pub settings-ready : Ready s₂ i
         settings-ready = held-ready (decode s₀) i s₂ (controllerWith (drop at image) (replicate 260 0) noTables) (after-settings (one-found .0) (one-found .1))
 
-        module _ (s₃ : Octets) (e₃ : s₃ ≡ encode (putController (decode s₂) i (withHost (controllerOf s₂ i) (withName (controllerOf s₂ i .host) (take (at + 283 - (at + 23)) (drop (at + 23) image)))))) where
+        module _ (s₃ : Octets) (e₃ : s₃ ≡ encode (putController (decode s₂) i
+            (withHost (controllerOf s₂ i) (withName (controllerOf s₂ i .host) (take (at + 283 - (at + 23)) (drop (at + 23) image)))))) where
           -- after the name
-          after-name : (c : Parsed Controller) → OneController (drop at image) c → Holds (decode s₀) i s₃ (controllerWith (drop at image) (take 260 (drop 23 (drop at image))) noTables)
+          after-name : (c : Parsed Controller) → OneController (drop at image) c
+              → Holds (decode s₀) i s₃ (controllerWith (drop at image) (take 260 (drop 23 (drop at image))) noTables)
           after-name c y =
-              name-held s₀ i (drop at image) c (g .ok) (g .below) (g .gone) y s₂ s₃ (take (at + 283 - (at + 23)) (drop (at + 23) image)) (name-part image at) (after-settings c y) e₃
+              name-held s₀ i (drop at image) c (g .ok) (g .below) (g .gone) y s₂ s₃ (take (at + 283 - (at + 23)) (drop (at + 23) image))
+              (name-part image at) (after-settings c y) e₃
 
           -- where the tables lie
-          tables-there : (c : Parsed Controller) (y : OneController (drop at image) c) → parseTables (controllerOf s₃ i .radio .hardware) tableRules (drop (at + 283) image) ≡ some (y .tables)
+          tables-there : (c : Parsed Controller) (y : OneController (drop at image) c)
+              → parseTables (controllerOf s₃ i .radio .hardware) tableRules (drop (at + 283) image) ≡ some (y .tables)
           tables-there c y = rw (← drop-drop 283 at image) (tables-found s₀ i (drop at image) c (g .ok) (g .below) (g .gone) y s₃ (after-name c y))
 
           -- the tables may be filled
-          pub name-ready : Ready s₃ i × (openAt s₃ i ≡ none) × (found (parseTables (controllerOf s₃ i .radio .hardware) tableRules (drop (at + 283) image)) ≡ true)
+          pub name-ready : Ready s₃ i × (openAt s₃ i ≡ none)
+              × (found (parseTables (controllerOf s₃ i .radio .hardware) tableRules (drop (at + 283) image)) ≡ true)
           name-ready =
               let d : Controller = controllerWith (drop at image) (take 260 (drop 23 (drop at image))) noTables in
               let x = after-name (one-found .0) (one-found .1) in (
                 held-ready (decode s₀) i s₃ d x,
                 held-open (decode s₀) i s₃ d x,
-                some-found (parseTables (controllerOf s₃ i .radio .hardware) tableRules (drop (at + 283) image)) (one-found .1 .tables) (tables-there (one-found .0) (one-found .1)),
+                some-found (parseTables (controllerOf s₃ i .radio .hardware) tableRules (drop (at + 283) image)) (one-found .1 .tables)
+                    (tables-there (one-found .0) (one-found .1)),
               )
 
           -- after the tables, the state has the controller
           pub controller-filled : (s₄ : Octets) (r : ℕ)
               → ((t : Parsed (List Table)) → parseTables (controllerOf s₃ i .radio .hardware) tableRules (drop (at + 283) image) ≡ some t
               → (s₄ ≡ encode (putController (decode s₃) i (withTables (controllerOf s₃ i) 0 (t .value)))) × (drop r image ≡ t .behind))
-              → (c : Parsed Controller) → parseController (drop at image) ≡ some c → (s₄ ≡ encode (putController (decode s₀) i (c .value))) × (drop r image ≡ c .behind)
+              → (c : Parsed Controller) → parseController (drop at image) ≡ some c → (s₄ ≡ encode (putController (decode s₀) i (c .value)))
+              × (drop r image ≡ c .behind)
           controller-filled s₄ r f c e =
               let y = one-controller (drop at image) c (bytes-drop at image (g .wide)) e in
               let z = f (y .tables) (tables-there c y) in

@@ -48,7 +48,8 @@ unfolding found
 some-found x a e = rw e
 
 -- the octet at a place, where octets are left from there on
-pub left-octet : (o : Octets) (p n : ℕ) (x : Octets) → drop p o ≡ n ∷ x → (p < length o) × (getD o p 0 ≡ n) × (drop (p + 1) o ≡ x) × (length o ≡ p + 1 + length x)
+pub left-octet : (o : Octets) (p n : ℕ) (x : Octets) → drop p o ≡ n ∷ x → (p < length o) × (getD o p 0 ≡ n) × (drop (p + 1) o ≡ x)
+    × (length o ≡ p + 1 + length x)
 left-octet [] zero n x e = let z : _≡_ {A = ℕ} (length {A = ℕ} []) (suc (length x)) = ap length e in absurd (omega arith)
 left-octet [] (suc p) n x e = let z : _≡_ {A = ℕ} (length {A = ℕ} []) (suc (length x)) = ap length e in absurd (omega arith)
 left-octet (y ∷ o) zero n x e = let a : y ≡ n = cc in let b : o ≡ x = cc in (omega arith, a, b, rw (← b) (omega arith))
@@ -81,7 +82,8 @@ module _ (h : Hub) (i : ℕ) (s : Octets) (c : Controller) (x : Holds h i s c) w
   -- the index is present in a well-formed state
   pub held-ready : Ready s i
   unfolding putController
-  held-ready = rw (x .state) (encode-ready (putController h i c) held-well i c (same-slot (h .plain) i (some c) (x .below) (shaped h i (x .well) (x .below) .below)))
+  held-ready =
+      rw (x .state) (encode-ready (putController h i c) held-well i c (same-slot (h .plain) i (some c) (x .below) (shaped h i (x .well) (x .below) .below)))
 
   -- the controller there
   pub held-controller : controllerOf s i ≡ c
@@ -100,7 +102,8 @@ module _ (h : Hub) (i : ℕ) (s : Octets) (c : Controller) (x : Holds h i s c) w
       record { well = x .well; below = x .below; idle = x .idle; fine = k; state = e ∙ rw (b, set-set) }
 
   -- a valid table in its place
-  pub held-table : (k : ℕ) (t : Octets) (v : Table) → k < 6 → tableOk (ruleAt k) (c .radio .hardware) v ≡ true → t ≡ writeAt s (tablePlace i k) (region (ruleAt k .size) v)
+  pub held-table : (k : ℕ) (t : Octets) (v : Table) → k < 6 → tableOk (ruleAt k) (c .radio .hardware) v ≡ true
+      → t ≡ writeAt s (tablePlace i k) (region (ruleAt k .size) v)
       → Holds h i t (withHost c (withTable (c .host) k v))
   held-table k t v l n e =
       let w = table-written s i held-ready k l v (rw held-controller n) in
@@ -122,7 +125,8 @@ pub record OneTable (f : Hardware) (u : TableRule) (us : List TableRule) (o : Oc
   pub behind : rest .behind ≡ m .behind
 
 -- the first table, read
-pub one-table : (f : Hardware) (u : TableRule) (us : List TableRule) (o : Octets) (m : Parsed (List Table)) → bytes o ≡ true → parseTables f (u ∷ us) o ≡ some m → OneTable f u us o m
+pub one-table : (f : Hardware) (u : TableRule) (us : List TableRule) (o : Octets) (m : Parsed (List Table)) → bytes o ≡ true
+    → parseTables f (u ∷ us) o ≡ some m → OneTable f u us o m
 unfolding parseTables tableThen bytes
 one-table f u us [] m w e = let z : _≡_ {A = ℕ} 0 1 = cc in absurd (omega arith)
 one-table f u us (n ∷ body) m w e =
@@ -166,11 +170,13 @@ pub rule-next : (k : ℕ) → k < 6 → drop k tableRules ≡ ruleAt k ∷ drop 
 unfolding ruleAt tableRules
 rule-next k l = drop-cons tableRules k uuidRule l
 
-module _ (h : Hub) (i : ℕ) (image : Octets) (d : Controller) (e : Octets) (w : bytes image ≡ true) (s : Octets) (k p : ℕ) (l : k < 6) (x : FillingTables h i image d e s k p) where
+module _ (h : Hub) (i : ℕ) (image : Octets) (d : Controller) (e : Octets) (w : bytes image ≡ true) (s : Octets) (k p : ℕ) (l : k < 6)
+    (x : FillingTables h i image d e s k p) where
   -- table k begins at that place
   next-table : OneTable (x .controller .radio .hardware) (ruleAt k) (drop (suc k) tableRules) (drop p image) (x .left)
   next-table =
-      one-table (x .controller .radio .hardware) (ruleAt k) (drop (suc k) tableRules) (drop p image) (x .left) (bytes-drop p image w) (rw (rule-next k l) at (x .parsed))
+      one-table (x .controller .radio .hardware) (ruleAt k) (drop (suc k) tableRules) (drop p image) (x .left) (bytes-drop p image w)
+      (rw (rule-next k l) at (x .parsed))
 
   -- its count lies in the image, and so do its records
   pub table-room : (p < length image) × (getD image p 0 ≤ 32) × (p + 1 + ruleAt k .size * getD image p 0 ≤ length image)
@@ -180,7 +186,8 @@ module _ (h : Hub) (i : ℕ) (image : Octets) (d : Controller) (e : Octets) (w :
       (o .0, rw (o .1) (t .few), rw (o .1) (omega (arith, t .fits, o .3)))
 
   -- the table loaded, the next is to be read behind it
-  pub table-turn : (t : Octets) → t ≡ writeAt s (tablePlace i k) (region (ruleAt k .size) (loaded (chop (ruleAt k .size) (getD image p 0) (drop (p + 1) image))))
+  pub table-turn : (t : Octets) → t ≡ writeAt s (tablePlace i k)
+      (region (ruleAt k .size) (loaded (chop (ruleAt k .size) (getD image p 0) (drop (p + 1) image))))
       → FillingTables h i image d e t (suc k) (p + 1 + ruleAt k .size * getD image p 0)
   unfolding withTables withHost
   table-turn t q =
@@ -188,7 +195,8 @@ module _ (h : Hub) (i : ℕ) (image : Octets) (d : Controller) (e : Octets) (w :
       let o = left-octet image p (y .count) (y .body) (y .octets) in
       let v : Table = loaded (chop (ruleAt k .size) (y .count) (y .body)) in
       let g : t ≡ writeAt s (tablePlace i k) (region (ruleAt k .size) v) = rw (o .1, o .2) at q in
-      let j : drop (p + 1 + ruleAt k .size * getD image p 0) image ≡ drop (ruleAt k .size * y .count) (y .body) = sym (drop-drop (ruleAt k .size * getD image p 0) (p + 1) image) ∙ rw (o .1, o .2) in
+      let j : drop (p + 1 + ruleAt k .size * getD image p 0) image ≡ drop (ruleAt k .size * y .count) (y .body) = sym
+      (drop-drop (ruleAt k .size * getD image p 0) (p + 1) image) ∙ rw (o .1, o .2) in
       let z : withTables (x .controller) k (v ∷ y .rest .value) ≡ d = ap (λ (ts : List Table). withTables (x .controller) k ts) (y .tables) ∙ x .whole in
       record {
         controller = withHost (x .controller) (withTable (x .controller .host) k v);
@@ -200,7 +208,8 @@ module _ (h : Hub) (i : ℕ) (image : Octets) (d : Controller) (e : Octets) (w :
       }
 
 -- all six tables are read
-pub tables-done : (h : Hub) (i : ℕ) (image : Octets) (d : Controller) (e s : Octets) (k p : ℕ) → 6 ≤ k → FillingTables h i image d e s k p → (s ≡ encode (putController h i d)) × (drop p image ≡ e)
+pub tables-done : (h : Hub) (i : ℕ) (image : Octets) (d : Controller) (e s : Octets) (k p : ℕ) → 6 ≤ k → FillingTables h i image d e s k p
+    → (s ≡ encode (putController h i d)) × (drop p image ≡ e)
 unfolding tableRules parseTables withTables
 tables-done h i image d e s k p l x =
     let n : drop k tableRules ≡ [] = drop-of-length-le tableRules {i = k} l in
@@ -231,18 +240,22 @@ held-now s i r o = record {
 
 -- at first, all are left
 pub tables-first : (s : Octets) (i : ℕ) (image : Octets) (at : ℕ) → Ready s i → openAt s i ≡ none → TablesLeft s i image at s 0 at
-tables-first s i image at r o = record { known = λ m e. record { controller = controllerOf s i; left = m; held = held-now s i r o; parsed = e; whole = refl; behind = refl } }
+tables-first s i image at r o =
+    record { known = λ m e. record { controller = controllerOf s i; left = m; held = held-now s i r o; parsed = e; whole = refl; behind = refl } }
 
-module _ (s₀ : Octets) (i : ℕ) (image : Octets) (at : ℕ) (w : bytes image ≡ true) (a : found (parseTables (controllerOf s₀ i .radio .hardware) tableRules (drop at image)) ≡ true) where
+module _ (s₀ : Octets) (i : ℕ) (image : Octets) (at : ℕ) (w : bytes image ≡ true)
+    (a : found (parseTables (controllerOf s₀ i .radio .hardware) tableRules (drop at image)) ≡ true) where
   -- the next table lies in the image
-  pub tables-room : (s : Octets) (k p : ℕ) → k < 6 → TablesLeft s₀ i image at s k p → (p < length image) × (getD image p 0 ≤ 32) × (p + 1 + ruleAt k .size * getD image p 0 ≤ length image)
+  pub tables-room : (s : Octets) (k p : ℕ) → k < 6 → TablesLeft s₀ i image at s k p → (p < length image) × (getD image p 0 ≤ 32)
+      × (p + 1 + ruleAt k .size * getD image p 0 ≤ length image)
   tables-room s k p l x =
       let m = found-some (parseTables (controllerOf s₀ i .radio .hardware) tableRules (drop at image)) a in
       table-room (decode s₀) i image (withTables (controllerOf s₀ i) 0 (m .0 .value)) (m .0 .behind) w s k p l (x .known (m .0) (m .1))
 
   -- a turn
   pub tables-turn : (s t : Octets) (k p n z place : ℕ) → k < 6 → n ≡ getD image p 0 → z ≡ ruleAt k .size → place ≡ tablePlace i k
-      → t ≡ writeAt s place (region z (loaded (chop z n (drop (p + 1) image)))) → TablesLeft s₀ i image at s k p → TablesLeft s₀ i image at t (k + 1) (p + 1 + z * n)
+      → t ≡ writeAt s place (region z (loaded (chop z n (drop (p + 1) image)))) → TablesLeft s₀ i image at s k p
+      → TablesLeft s₀ i image at t (k + 1) (p + 1 + z * n)
   tables-turn s t k p n z place l en ez ep q x =
       let f : k + 1 ≡ suc k = omega arith in
       record {

@@ -44,7 +44,8 @@ pub record OneMore (n low : ℕ) (l : List (Option Controller)) (o : Octets) (s 
   pub others : parseControllers n (suc index) (set l index (some (one .value))) (one .behind) ≡ some s
 
 -- the first of them, read
-one-more : (n low : ℕ) (l : List (Option Controller)) (o : Octets) (s : List (Option Controller)) → parseControllers (suc n) low l o ≡ some s → OneMore n low l o s
+one-more : (n low : ℕ) (l : List (Option Controller)) (o : Octets) (s : List (Option Controller)) → parseControllers (suc n) low l o ≡ some s
+    → OneMore n low l o s
 unfolding parseControllers
 one-more n low l [] s e = let z : _≡_ {A = ℕ} 0 1 = cc in absurd (omega arith)
 one-more n low l (i ∷ o) s e =
@@ -73,11 +74,13 @@ pub record Loading (image : Octets) (h : PlainHub) (s : Octets) (n p : ℕ) : Ty
   pub zero : h .clock ≡ 0
 
 -- another valid controller among them
-set-fine : (l : List (Option Controller)) (i : ℕ) (c : Controller) → plainOk (hubOf l) ≡ true → controllerOk c ≡ true → plainOk (hubOf (set l i (some c))) ≡ true
+set-fine : (l : List (Option Controller)) (i : ℕ) (c : Controller) → plainOk (hubOf l) ≡ true → controllerOk c ≡ true
+    → plainOk (hubOf (set l i (some c))) ≡ true
 unfolding slotOk
 set-fine l i c e k =
     let f = plain-fit (hubOf l) e in
-    fit-plain (hubOf (set l i (some c))) (record { four = rw (length-set l i (some c)) (f .four); clock = f .clock; slots = slots-set l i (some c) (f .slots) k })
+    fit-plain (hubOf (set l i (some c))) (record
+    { four = rw (length-set l i (some c)) (f .four); clock = f .clock; slots = slots-set l i (some c) (f .slots) k })
 
 -- an empty slot is an absent controller
 no-controller : (l : List (Option Controller)) (i : ℕ) → i < 4 → getD l i none ≡ none → controllerAt (hubOf l) i ≡ none
@@ -103,19 +106,28 @@ module _ (image : Octets) (w : bytes image ≡ true) (h : PlainHub) (s : Octets)
   next-octet = left-octet image p (next .index) (next .body) (next .octets)
 
   -- it may be filled in
-  pub next-ready : (p < length image) × (stateOk s ≡ true) × (getD image p 0 < 4) × (presentAt s (getD image p 0) ≡ false) × (found (parseController (drop (p + 1) image)) ≡ true)
+  pub next-ready : (p < length image) × (stateOk s ≡ true) × (getD image p 0 < 4) × (presentAt s (getD image p 0) ≡ false)
+      × (found (parseController (drop (p + 1) image)) ≡ true)
   unfolding idle
   next-ready =
       let y = next in
       let o = next-octet in
       let g : presentAt s (y .index) ≡ false =
       ap (λ (q : Octets). presentAt q (y .index)) (x .state)
-      ∙ encode-absent (idle (hubOf (x .controllers))) now-well (y .index) (no-controller (x .controllers) (y .index) (y .below) (x .free (y .index) (y .above))) in
-      (o .0, rw (x .state) (encode-ok (idle (hubOf (x .controllers))) now-well), rw (o .1) (y .below), rw (o .1) g, rw (o .2) (some-found (parseController (y .body)) (y .one) (y .parsed)))
+      ∙ encode-absent (idle (hubOf (x .controllers))) now-well (y .index)
+      (no-controller (x .controllers) (y .index) (y .below) (x .free (y .index) (y .above))) in (
+        o .0,
+        rw (x .state) (encode-ok (idle (hubOf (x .controllers))) now-well),
+        rw (o .1) (y .below),
+        rw (o .1) g,
+        rw (o .2)
+            (some-found (parseController (y .body)) (y .one) (y .parsed)),
+      )
 
   -- filled in, one fewer is left
   pub next-turn : (t : Octets) (r : ℕ)
-      → ((c : Parsed Controller) → parseController (drop (p + 1) image) ≡ some c → (t ≡ encode (putController (decode s) (getD image p 0) (c .value))) × (drop r image ≡ c .behind))
+      → ((c : Parsed Controller) → parseController (drop (p + 1) image) ≡ some c → (t ≡ encode (putController (decode s) (getD image p 0) (c .value)))
+      × (drop r image ≡ c .behind))
       → Loading image h t n r
   next-turn t r f =
       let y = next in
@@ -128,7 +140,9 @@ module _ (image : Octets) (w : bytes image ≡ true) (h : PlainHub) (s : Octets)
         low = suc (y .index);
         fine = set-fine (x .controllers) (y .index) (y .one .value) (x .fine) (k .0);
         state = (rw (b, o .1, put-idle (x .controllers) (y .index) (y .one .value)) at (z .0));
-        free = λ j m. getD-set-other (x .controllers) (y .index) j (some (y .one .value)) none (λ q. omega (arith, m, q)) ∙ x .free j (omega (arith, m, y .above));
+        free =
+            λ j m. getD-set-other (x .controllers) (y .index) j (some (y .one .value)) none (λ q. omega (arith, m, q))
+            ∙ x .free j (omega (arith, m, y .above));
         left = rw (z .1) (y .others);
         zero = x .zero;
       }
@@ -156,8 +170,12 @@ image-begins image h e =
     let cs : Option (List (Option Controller)) = parseControllers (getD image 5 0) 0 (replicate 4 none) (drop 6 image) in
     let a = tested (leb 6 (length image) && (eqb (number 0 (take 4 image)) (length image) && eqb (getD image 4 0) 1)) _ h e in
     let b = then cs (λ s. some (record { clock = 0; controllers = s })) h (a .1) in
-    let q : record { clock = 0; controllers = b .0 } ≡ h = cc in
-    (le-of 6 (length image) (and-true (leb 6 (length image)) _ (a .0) .0), b .1 ∙ ap (λ (x : PlainHub). some (x .controllers)) q, sym (ap (λ (x : PlainHub). x .clock) q))
+    let q : record { clock = 0; controllers = b .0 } ≡ h = cc in (
+      le-of 6 (length image) (and-true (leb 6 (length image)) _ (a .0) .0),
+      b .1
+          ∙ ap (λ (x : PlainHub). some (x .controllers)) q,
+      sym (ap (λ (x : PlainHub). x .clock) q),
+    )
 
 -- it has six octets at least
 pub image-long : (image : Octets) → accepted image ≡ true → 6 ≤ length image
@@ -179,13 +197,15 @@ module _ (image : Octets) (w : bytes image ≡ true) (a : accepted image ≡ tru
   less = omega arith
 
   -- the next may be filled in
-  pub loads-ready : (p < length image) × (stateOk s ≡ true) × (getD image p 0 < 4) × (presentAt s (getD image p 0) ≡ false) × (found (parseController (drop (p + 1) image)) ≡ true)
+  pub loads-ready : (p < length image) × (stateOk s ≡ true) × (getD image p 0 < 4) × (presentAt s (getD image p 0) ≡ false)
+      × (found (parseController (drop (p + 1) image)) ≡ true)
   unfolding accepted
   loads-ready = let q = found-some (load image) a in let y = x .known (q .0) (q .1) in next-ready image w (q .0) s (n - 1) p (rw less at y)
 
   -- one fewer is left
   pub loads-turn : (t : Octets) (r : ℕ)
-      → ((c : Parsed Controller) → parseController (drop (p + 1) image) ≡ some c → (t ≡ encode (putController (decode s) (getD image p 0) (c .value))) × (drop r image ≡ c .behind))
+      → ((c : Parsed Controller) → parseController (drop (p + 1) image) ≡ some c → (t ≡ encode (putController (decode s) (getD image p 0) (c .value)))
+      × (drop r image ≡ c .behind))
       → Loads image t (n - 1) r
   loads-turn t r f = record { known = λ h e. let y = x .known h e in next-turn image w h s (n - 1) p (rw less at y) t r f }
 

@@ -5,12 +5,13 @@ ghost use mathlib.Core.Option.{none, some};
 ghost use mathlib.Core.List.{List, _∷_};
 ghost use Prim.Native.Nat.{_+_, _≤_, _<_};
 ghost use lib.ListN.{length, drop, getD};
+ghost use Rattle.model.specs.Lengths as Lengths;
 ghost use Rattle.model.specs.State.{Controller, PlainHub, Table, idle};
 ghost use Rattle.model.specs.declared.Hardware.{Hardware};
 ghost use Rattle.model.specs.Tables.{TableRule, tableRules};
 ghost use Rattle.model.specs.Tables.{ruleAt};
 ghost use Rattle.model.specs.Image.{Parsed, parseController, parseTables};
-ghost use Rattle.model.specs.Image as I;
+ghost use Rattle.model.specs.Image as Image;
 ghost use Rattle.model.specs.Layout.{decode, encode};
 ghost use Rattle.model.specs.Meanings.{stateOk};
 ghost use Rattle.layout.specs.Places.{Ready, controllerOf, openAt, presentAt, putController};
@@ -24,11 +25,20 @@ use model::HostSettings;
 use model::RadioSettings;
 use model::Settings;
 use model::Timer;
+use model::lengths;
 
 // Fills the six tables of the controller at an index from those that lie at a place of the image. Gives the place behind them.
 fn fill_tables(state: &mut [u8], index: u64, image: &[u8], at: usize) -> usize
-    requires { ⌜ Ready (now state) index × (openAt (now state) index ≡ none) × (found (parseTables (controllerOf (now state) index .radio .hardware) tableRules (drop at (now image))) ≡ true) ⌝ }
-    ensures { λ r. ⌜ ((m : Parsed (List Table)) → parseTables (controllerOf (now (state .entry)) index .radio .hardware) tableRules (drop at (now (image .entry))) ≡ some m → (now (state .exit) ≡ encode (putController (decode (now (state .entry))) index (withTables (controllerOf (now (state .entry)) index) 0 (m .value)))) × (drop r (now (image .entry)) ≡ m .behind)) ⌝ }
+    requires { ⌜
+        Ready (now state) index × (openAt (now state) index ≡ none)
+        × (found (parseTables (controllerOf (now state) index .radio .hardware) tableRules (drop at (now image))) ≡ true)
+        ⌝ }
+    ensures { λ r. ⌜
+        ((m : Parsed (List Table)) → parseTables (controllerOf (now (state .entry)) index .radio .hardware) tableRules
+        (drop at (now (image .entry))) ≡ some m → (now (state .exit) ≡ encode
+        (putController (decode (now (state .entry))) index (withTables (controllerOf (now (state .entry)) index) 0 (m .value))))
+        × (drop r (now (image .entry)) ≡ m .behind))
+        ⌝ }
 {
     let mut p = at;
     let mut k: usize = 0;
@@ -79,7 +89,10 @@ fn settings_in(image: &[u8], at: usize) -> Settings
 // Fills the block of the absent index with the controller that lies at a place of the image, behind its index. Gives the place behind it.
 fn fill_controller(state: &mut [u8], index: u64, image: &[u8], at: usize) -> usize
     requires { ⌜ (stateOk (now state) ≡ true) × (index < 4) × (presentAt (now state) index ≡ false) × (found (parseController (drop at (now image))) ≡ true) ⌝ }
-    ensures { λ r. ⌜ ((c : Parsed Controller) → parseController (drop at (now (image .entry))) ≡ some c → (now (state .exit) ≡ encode (putController (decode (now (state .entry))) index (c .value))) × (drop r (now (image .entry)) ≡ c .behind)) ⌝ }
+    ensures { λ r. ⌜
+        ((c : Parsed Controller) → parseController (drop at (now (image .entry))) ≡ some c
+        → (now (state .exit) ≡ encode (putController (decode (now (state .entry))) index (c .value))) × (drop r (now (image .entry)) ≡ c .behind))
+        ⌝ }
 {
     let m = settings_in(image, at);
     let r = m.radio;
@@ -91,11 +104,11 @@ fn fill_controller(state: &mut [u8], index: u64, image: &[u8], at: usize) -> usi
 }
 
 // Fills the state from an image that was accepted.
-pub fn fill(state: &mut [u8], image: &[u8])
-    requires { ⌜ (length (now state) ≡ 16116) × (accepted (now image) ≡ true) ⌝ }
-    ensures { λ _. ⌜ ((p : PlainHub) → I.load (now (image .entry)) ≡ some p → now (state .exit) ≡ encode (idle p)) ⌝ }
+fn fill(state: &mut [u8], image: &[u8])
+    requires { ⌜ (length (now state) ≡ Lengths.state) × (accepted (now image) ≡ true) ⌝ }
+    ensures { λ _. ⌜ ((p : PlainHub) → Image.load (now (image .entry)) ≡ some p → now (state .exit) ≡ encode (idle p)) ⌝ }
 {
-    octets::zero_fill(state, 0, 16116);
+    octets::zero_fill(state, 0, lengths::STATE);
     let mut left = image[5];
     let mut at: usize = 6;
     while 0 < left {
@@ -107,7 +120,10 @@ pub fn fill(state: &mut [u8], image: &[u8])
 // The place behind the table k that lies at a place of the image, if it keeps its rules; else 0.
 fn table_ends(k: usize, image: &[u8], place: usize, supported: u32) -> usize
     requires { ⌜ k < 6 ⌝ }
-    ensures { λ r. ⌜ (r ≤ length (now (image .entry))) × ((us : List TableRule) (f : Hardware) → f .supported ≡ supported → behindOf (parseTables f (ruleAt k ∷ us) (drop place (now (image .entry)))) ≡ tablesFrom f us (now (image .entry)) r) ⌝ }
+    ensures { λ r. ⌜
+        (r ≤ length (now (image .entry))) × ((us : List TableRule) (f : Hardware) → f .supported ≡ supported
+        → behindOf (parseTables f (ruleAt k ∷ us) (drop place (now (image .entry)))) ≡ tablesFrom f us (now (image .entry)) r)
+        ⌝ }
 {
     if image.len() <= place {
         return 0;
@@ -135,7 +151,10 @@ fn table_ends(k: usize, image: &[u8], place: usize, supported: u32) -> usize
 // The place behind the six tables that lie at a place of the image, if they keep their rules; else 0.
 fn tables_end(image: &[u8], place: usize, supported: u32) -> usize
     requires { ⌜ (0 < place) × (place ≤ length (now image)) ⌝ }
-    ensures { λ r. ⌜ (r ≤ length (now (image .entry))) × ((f : Hardware) → f .supported ≡ supported → behindOf (parseTables f tableRules (drop place (now (image .entry)))) ≡ endAt (now (image .entry)) r) ⌝ }
+    ensures { λ r. ⌜
+        (r ≤ length (now (image .entry))) × ((f : Hardware) → f .supported ≡ supported
+        → behindOf (parseTables f tableRules (drop place (now (image .entry)))) ≡ endAt (now (image .entry)) r)
+        ⌝ }
 {
     let mut p = place;
     let mut k: usize = 0;
@@ -217,7 +236,7 @@ fn controllers_ok(image: &[u8]) -> bool
 }
 
 // Whether an image keeps every rule: its length, its version and its controllers.
-pub fn image_ok(image: &[u8]) -> bool
+fn image_ok(image: &[u8]) -> bool
     ensures { λ r. ⌜ r ≡ accepted (now (image .entry)) ⌝ }
 {
     if image.len() < 6 {
@@ -234,9 +253,12 @@ pub fn image_ok(image: &[u8]) -> bool
 
 // Load: the state that an image gives, if the state buffer has its length and the image keeps every rule; else nothing is written.
 pub fn load(state: &mut [u8], image: &[u8]) -> Answer
-    ensures { λ r. ⌜ (numberOf r ≡ hubLoad (now (state .entry)) (now (image .entry)) .answer) × (countOf r ≡ 0) × (now (state .exit) ≡ hubLoad (now (state .entry)) (now (image .entry)) .state) ⌝ }
+    ensures { λ r. ⌜
+        (numberOf r ≡ hubLoad (now (state .entry)) (now (image .entry)) .answer) × (countOf r ≡ 0)
+        × (now (state .exit) ≡ hubLoad (now (state .entry)) (now (image .entry)) .state)
+        ⌝ }
 {
-    if state.len() == 16116 {
+    if state.len() == lengths::STATE {
         if image_ok(image) {
             fill(state, image);
             return Answer::Done(0);

@@ -13,7 +13,8 @@ use Rattle.model.specs.State.{Controller, Hub}
 use Rattle.model.specs.Answers.{countOf, numberOf}
 use Rattle.model.specs.Reasons.{Reason, firstOf}
 use Rattle.model.specs.Rules.{RadioRule}
-use Rattle.model.specs.Hub.{Result, Verdict, acted, answerOf, busyOr, byStatus, commandOut, keep, octetsOf, radioAfterBusy, radioAt, radioBeforeBusy, refusalOctets}
+use Rattle.model.specs.Hub.{Result, Verdict, acted, answerOf, busyOr, byStatus, commandOut, keep, octetsOf, radioAfterBusy, radioAt}
+use Rattle.model.specs.Hub.{radioBeforeBusy, refusalOctets}
 use Rattle.rules.specs.declared.Decision.{Decision}
 use Rattle.rules.specs.Decisions.{afterBusyOf, beforeBusyOf, decision, decisionAnswer, decisionStatus, waitOrAct}
 
@@ -42,7 +43,8 @@ module _ (h : Hub) (i code : ℕ) (ps : Octets) (u : RadioRule) (c : Controller)
 
   -- all checks
   before-says : (x : Option Reason)
-      → Says i code (beforeBusyOf (afterBusyOf (u .waits (c .radio) ps) (firstOf (u .afterBusy (c .radio) ps))) x) (idleOut (radioBeforeBusy (h .plain) i code ps u c x))
+      → Says i code (beforeBusyOf (afterBusyOf (u .waits (c .radio) ps) (firstOf (u .afterBusy (c .radio) ps))) x)
+      (idleOut (radioBeforeBusy (h .plain) i code ps u c x))
   unfolding idleOut commandOut radioBeforeBusy beforeBusyOf keep answerOf octetsOf refusalOctets byStatus
   before-says (some x) = record { number = refl; count = refl; status = λ e. refl }
   before-says none = after-says (firstOf (u .afterBusy (c .radio) ps))

@@ -49,14 +49,30 @@ left b x y e = rw e
 -- the settings with power on or off, with connectable on or off
 abbrev pub poweredTo : Settings → Bool → Settings
 poweredTo m b = record {
-  radio = record { hardware = m .radio .hardware; powered = b; connectable = m .radio .connectable; lowEnergy = m .radio .lowEnergy; staticAddress = m .radio .staticAddress };
+  radio =
+      record {
+        hardware = m .radio .hardware;
+        powered = b;
+        connectable = m .radio .connectable;
+        lowEnergy = m .radio .lowEnergy;
+        staticAddress =
+            m .radio .staticAddress;
+      };
   host = m .host;
 }
 
 -- the same, of connectable
 abbrev pub connectableTo : Settings → Bool → Settings
 connectableTo m b = record {
-  radio = record { hardware = m .radio .hardware; powered = m .radio .powered; connectable = b; lowEnergy = m .radio .lowEnergy; staticAddress = m .radio .staticAddress };
+  radio =
+      record {
+        hardware = m .radio .hardware;
+        powered = m .radio .powered;
+        connectable = b;
+        lowEnergy = m .radio .lowEnergy;
+        staticAddress =
+            m .radio .staticAddress;
+      };
   host = m .host;
 }
 
@@ -66,7 +82,8 @@ pub powered-ends : (m : Settings) (ps : Octets) (t : Timer) → t ≡ noTimer �
 unfolding settingsTimer settingsEffect controllerOf settingsOf setPowered withPowered withTimer on octet
 powered-ends m ps t n e =
     let h : Host = controllerOf m .host in
-    rw n (sym (ap (λ (h : Host). settingsOf (record { radio = withPowered (m .radio) (on ps); host = h })) (taken (not (on ps) && not (eqb (m .host .timer .seconds) 0)) (withTimer h noTimer) h e)))
+    rw n (sym (ap (λ (h : Host). settingsOf (record { radio = withPowered (m .radio) (on ps); host = h }))
+    (taken (not (on ps) && not (eqb (m .host .timer .seconds) 0)) (withTimer h noTimer) h e)))
 
 -- where it does not run, or power goes on: the timer stays as it is
 pub powered-stays : (m : Settings) (ps : Octets) → (not (eqb (getD ps 0 0) 1) && not (eqb (m .host .timer .seconds) 0)) ≡ false
@@ -74,7 +91,8 @@ pub powered-stays : (m : Settings) (ps : Octets) → (not (eqb (getD ps 0 0) 1) 
 unfolding settingsEffect controllerOf settingsOf setPowered withPowered withTimer on octet
 powered-stays m ps e =
     let h : Host = controllerOf m .host in
-    sym (ap (λ (h : Host). settingsOf (record { radio = withPowered (m .radio) (on ps); host = h })) (left (not (on ps) && not (eqb (m .host .timer .seconds) 0)) (withTimer h noTimer) h e))
+    sym (ap (λ (h : Host). settingsOf (record { radio = withPowered (m .radio) (on ps); host = h }))
+    (left (not (on ps) && not (eqb (m .host .timer .seconds) 0)) (withTimer h noTimer) h e))
 
 -- Set Connectable on, and off
 pub connectable-on : (m : Settings) (ps : Octets) → eqb (getD ps 0 0) 1 ≡ true → connectableTo m (eqb (getD ps 0 0) 1) ≡ settingsEffect setConnectable m ps

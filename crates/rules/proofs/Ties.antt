@@ -11,13 +11,14 @@ use lib.Dec.{eqb}
 use borrow.Author.Tests.{eq-eqb}
 use Rattle.model.specs.Octets.{Octets}
 use Rattle.model.specs.declared.RadioSettings.{RadioSettings}
-use Rattle.model.specs.State.{Host, Controller, noTimer, settingsOf, withHost, withTimer, withBondable, withPowered, withConnectable, withLowEnergy, withStaticAddress}
-use Rattle.model.specs.Reasons.{Reason, Check, firstOf, nothing, passes}
+use Rattle.model.specs.State.{Host, Controller, noTimer, settingsOf, withHost, withTimer, withBondable, withPowered, withConnectable, withLowEnergy}
+use Rattle.model.specs.State.{withStaticAddress}
+use Rattle.model.specs.Reasons.{Reason, Check, firstOf, noReason, passes, statusOf}
 use Rattle.model.specs.Rules.{RadioRule, radio, on, setPowered, setDiscoverable, setConnectable, setLowEnergy, setStaticAddress}
 use Rattle.model.specs.Hub.{startsBy, countdown, tick}
 use Rattle.model.specs.WellFormed.{timerOk}
-use Rattle.rules.specs.Decisions.{waitOrAct, afterBusyOf, beforeBusyOf, decision, isWait, Fails, settingsOk}
-use Rattle.rules.specs.Effects.{withSettings, controllerOf, settingsEffect, OnlySettings, settingsTimer, settingsBondable}
+use Rattle.rules.specs.Decisions.{waitOrAct, afterBusyOf, beforeBusyOf, decision, isStarted, settingsOk}
+use Rattle.rules.specs.Effects.{withSettings, controllerOf, settingsEffect, settingsTimer, settingsBondable}
 use Rattle.rules.specs.declared.Decision.the-variants.{Refuse, Reject, Wait, Act}
 
 -- 0 is not 1: for the cases in which one decision would be two
@@ -29,25 +30,33 @@ clash e = absurd (omega arith)
 -- One lemma for each answer, over the first reason before Busy, the first after it, and whether the command waits.
 
 -- a command waits if no reason stands and it is one that the radio carries out
-wait-test : (a b : Option Reason) (w : Bool) → (nothing a && (nothing b && w)) ≡ isWait (beforeBusyOf (afterBusyOf w b) a)
-unfolding nothing isWait beforeBusyOf afterBusyOf waitOrAct
+wait-test : (a b : Option Reason) (w : Bool) → (noReason a && (noReason b && w)) ≡ isStarted (beforeBusyOf (afterBusyOf w b) a)
+unfolding noReason isStarted beforeBusyOf afterBusyOf waitOrAct
 wait-test (some x) b w = refl
 wait-test none (some y) w = refl
 wait-test none none true = refl
 wait-test none none false = refl
 
 -- what a start asks beside the length is that the decision is to wait
-pub wait-is : (r : RadioRule) (x : RadioSettings) (ps : Octets) → (passes (r .beforeBusy x ps) && (passes (r .afterBusy x ps) && r .waits x ps)) ≡ isWait (decision r x ps)
+pub wait-is : (r : RadioRule) (x : RadioSettings) (ps : Octets)
+    → (passes (r .beforeBusy x ps) && (passes (r .afterBusy x ps) && r .waits x ps)) ≡ isStarted (decision r x ps)
 unfolding passes decision
 wait-is r x ps = wait-test (firstOf (r .beforeBusy x ps)) (firstOf (r .afterBusy x ps)) (r .waits x ps)
 
 -- so with parameters of the right length a command would now be started exactly if the decision is to wait
-pub starts-is : (r : RadioRule) (x : RadioSettings) (ps : Octets) → length ps ≡ r .size → startsBy x ps (some (radio r)) ≡ isWait (decision r x ps)
+pub starts-is : (r : RadioRule) (x : RadioSettings) (ps : Octets) → length ps ≡ r .size → startsBy x ps (some (radio r)) ≡ isStarted (decision r x ps)
 unfolding startsBy
 starts-is r x ps l = rw (eq-eqb (length ps) (r .size) l) (wait-is r x ps)
 
+-- the first of the checks that fails, and its status
+pub record Fails (cs : List Check) (status : ℕ) : Type 0 where
+  pub reason : Reason
+  pub first : firstOf cs ≡ some reason
+  pub told : statusOf reason ≡ status
+
 -- a decision tells which checks fail: what the model's verdict goes by
-refused : (cs ds : List Check) (w : Bool) (s : ℕ) (a b : Option Reason) → firstOf cs ≡ a → firstOf ds ≡ b → beforeBusyOf (afterBusyOf w b) a ≡ Refuse s → Fails cs s
+refused : (cs ds : List Check) (w : Bool) (s : ℕ) (a b : Option Reason) → firstOf cs ≡ a → firstOf ds ≡ b
+    → beforeBusyOf (afterBusyOf w b) a ≡ Refuse s → Fails cs s
 unfolding beforeBusyOf afterBusyOf waitOrAct
 refused cs ds w s (some x) b ea eb e = record { reason = x; first = ea; told = cc }
 refused cs ds w s none (some y) ea eb e = clash (cc)
@@ -57,7 +66,8 @@ refused cs ds false s none none ea eb e = clash (cc)
 -- so of a command's rule: Refuse is the status of the first check before Busy that fails
 pub refuse-fails : (r : RadioRule) (x : RadioSettings) (ps : Octets) (s : ℕ) → decision r x ps ≡ Refuse s → Fails (r .beforeBusy x ps) s
 unfolding decision
-refuse-fails r x ps s e = refused (r .beforeBusy x ps) (r .afterBusy x ps) (r .waits x ps) s (firstOf (r .beforeBusy x ps)) (firstOf (r .afterBusy x ps)) refl refl e
+refuse-fails r x ps s e =
+    refused (r .beforeBusy x ps) (r .afterBusy x ps) (r .waits x ps) s (firstOf (r .beforeBusy x ps)) (firstOf (r .afterBusy x ps)) refl refl e
 
 -- the same, of Reject: nothing fails before Busy, and a check after it does
 rejected : (cs ds : List Check) (w : Bool) (s : ℕ) (a b : Option Reason) → firstOf cs ≡ a → firstOf ds ≡ b → beforeBusyOf (afterBusyOf w b) a ≡ Reject s
@@ -69,9 +79,11 @@ rejected cs ds true s none none ea eb e = clash (cc)
 rejected cs ds false s none none ea eb e = clash (cc)
 
 -- so of a command's rule
-pub reject-fails : (r : RadioRule) (x : RadioSettings) (ps : Octets) (s : ℕ) → decision r x ps ≡ Reject s → (firstOf (r .beforeBusy x ps) ≡ none) × Fails (r .afterBusy x ps) s
+pub reject-fails : (r : RadioRule) (x : RadioSettings) (ps : Octets) (s : ℕ) → decision r x ps ≡ Reject s → (firstOf (r .beforeBusy x ps) ≡ none)
+    × Fails (r .afterBusy x ps) s
 unfolding decision
-reject-fails r x ps s e = rejected (r .beforeBusy x ps) (r .afterBusy x ps) (r .waits x ps) s (firstOf (r .beforeBusy x ps)) (firstOf (r .afterBusy x ps)) refl refl e
+reject-fails r x ps s e =
+    rejected (r .beforeBusy x ps) (r .afterBusy x ps) (r .waits x ps) s (firstOf (r .beforeBusy x ps)) (firstOf (r .afterBusy x ps)) refl refl e
 
 -- the same, of Wait and Act: nothing fails, and the rule says which of the two
 passed : (cs ds : List Check) (w v : Bool) (a b : Option Reason) → firstOf cs ≡ a → firstOf ds ≡ b → beforeBusyOf (afterBusyOf w b) a ≡ waitOrAct v
@@ -87,14 +99,18 @@ passed cs ds true false none none ea eb e = clash (cc)
 passed cs ds false true none none ea eb e = clash (cc)
 
 -- so of a command's rule where the decision is to wait
-pub wait-passes : (r : RadioRule) (x : RadioSettings) (ps : Octets) → decision r x ps ≡ Wait → (firstOf (r .beforeBusy x ps) ≡ none) × (firstOf (r .afterBusy x ps) ≡ none) × (r .waits x ps ≡ true)
+pub wait-passes : (r : RadioRule) (x : RadioSettings) (ps : Octets) → decision r x ps ≡ Wait → (firstOf (r .beforeBusy x ps) ≡ none)
+    × (firstOf (r .afterBusy x ps) ≡ none) × (r .waits x ps ≡ true)
 unfolding decision waitOrAct
-wait-passes r x ps e = passed (r .beforeBusy x ps) (r .afterBusy x ps) (r .waits x ps) true (firstOf (r .beforeBusy x ps)) (firstOf (r .afterBusy x ps)) refl refl e
+wait-passes r x ps e =
+    passed (r .beforeBusy x ps) (r .afterBusy x ps) (r .waits x ps) true (firstOf (r .beforeBusy x ps)) (firstOf (r .afterBusy x ps)) refl refl e
 
 -- and where it is to act at once
-pub act-passes : (r : RadioRule) (x : RadioSettings) (ps : Octets) → decision r x ps ≡ Act → (firstOf (r .beforeBusy x ps) ≡ none) × (firstOf (r .afterBusy x ps) ≡ none) × (r .waits x ps ≡ false)
+pub act-passes : (r : RadioRule) (x : RadioSettings) (ps : Octets) → decision r x ps ≡ Act → (firstOf (r .beforeBusy x ps) ≡ none)
+    × (firstOf (r .afterBusy x ps) ≡ none) × (r .waits x ps ≡ false)
 unfolding decision waitOrAct
-act-passes r x ps e = passed (r .beforeBusy x ps) (r .afterBusy x ps) (r .waits x ps) false (firstOf (r .beforeBusy x ps)) (firstOf (r .afterBusy x ps)) refl refl e
+act-passes r x ps e =
+    passed (r .beforeBusy x ps) (r .afterBusy x ps) (r .waits x ps) false (firstOf (r .beforeBusy x ps)) (firstOf (r .afterBusy x ps)) refl refl e
 
 -- EFFECTS -------------------------------------------------------------------------------------------------------------------------------------
 
@@ -110,19 +126,31 @@ made r h = record { radio = r; host = h }
 abbrev bare : Controller → Host
 bare c = controllerOf (settingsOf c) .host
 
+-- a settings command changes the settings alone, and what it makes of them rests on them and the parameters alone
+pub record OnlySettings (r : RadioRule) (c : Controller) (ps : Octets) : Type 0 where
+  pub settings : settingsOf (r .effect c ps) ≡ settingsEffect r (settingsOf c) ps
+  pub whole : r .effect c ps ≡ withSettings c (settingsEffect r (settingsOf c) ps)
+
 -- Set Powered changes the settings alone, by the settings alone
 pub powered-only : (c : Controller) (ps : Octets) → OnlySettings setPowered c ps
 unfolding settingsEffect controllerOf settingsOf withSettings setPowered withPowered withTimer
-powered-only c ps = record { settings = settings (not (on ps) && not (eqb (c .host .settings .timer .seconds) 0)); whole = whole (not (on ps) && not (eqb (c .host .settings .timer .seconds) 0)) }
+powered-only c ps =
+    record {
+      settings = settings (not (on ps) && not (eqb (c .host .settings .timer .seconds) 0));
+      whole = whole
+          (not (on ps) && not (eqb (c .host .settings .timer .seconds) 0));
+    }
   where
     r : RadioSettings
     r = withPowered (c .radio) (on ps)
 
-    settings : (b : Bool) → settingsOf (made r (either b (withTimer (c .host) noTimer) (c .host))) ≡ settingsOf (made r (either b (withTimer (bare c) noTimer) (bare c)))
+    settings : (b : Bool) → settingsOf (made r (either b (withTimer (c .host) noTimer) (c .host))) ≡ settingsOf
+        (made r (either b (withTimer (bare c) noTimer) (bare c)))
     settings true = refl
     settings false = refl
 
-    whole : (b : Bool) → made r (either b (withTimer (c .host) noTimer) (c .host)) ≡ withSettings c (settingsOf (made r (either b (withTimer (bare c) noTimer) (bare c))))
+    whole : (b : Bool) → made r (either b (withTimer (c .host) noTimer) (c .host)) ≡ withSettings c
+        (settingsOf (made r (either b (withTimer (bare c) noTimer) (bare c))))
     whole true = refl
     whole false = refl
 
@@ -139,11 +167,13 @@ connectable-only c ps = record { settings = settings (on ps); whole = whole (on 
     r : RadioSettings
     r = withConnectable (c .radio) (on ps)
 
-    settings : (b : Bool) → settingsOf (made r (either b (c .host) (withTimer (c .host) noTimer))) ≡ settingsOf (made r (either b (bare c) (withTimer (bare c) noTimer)))
+    settings : (b : Bool) → settingsOf (made r (either b (c .host) (withTimer (c .host) noTimer))) ≡ settingsOf
+        (made r (either b (bare c) (withTimer (bare c) noTimer)))
     settings true = refl
     settings false = refl
 
-    whole : (b : Bool) → made r (either b (c .host) (withTimer (c .host) noTimer)) ≡ withSettings c (settingsOf (made r (either b (bare c) (withTimer (bare c) noTimer))))
+    whole : (b : Bool) → made r (either b (c .host) (withTimer (c .host) noTimer)) ≡ withSettings c
+        (settingsOf (made r (either b (bare c) (withTimer (bare c) noTimer))))
     whole true = refl
     whole false = refl
 

@@ -1,9 +1,7 @@
 -- What a settings command comes to on the radio settings, Busy aside.
 -- Assumes nothing.
-use mathlib.Core.Path.{_≡_}
 use Prim.Native.Nat.{ℕ}
 use mathlib.Core.Bool.{Bool, true, false}
-use mathlib.Core.List.{List}
 use mathlib.Core.Option.{Option, none, some}
 use lib.Dec.{eqb}
 use Rattle.model.specs.Octets.{Octets}
@@ -12,7 +10,7 @@ use Rattle.model.specs.declared.Settings.{Settings}
 use Rattle.model.specs.Answers.{numberOf}
 use Rattle.model.specs.declared.Answer.{Answer}
 use Rattle.model.specs.declared.Answer.the-variants.{Done, Started, Refused}
-use Rattle.model.specs.Reasons.{Reason, Check, statusOf, firstOf}
+use Rattle.model.specs.Reasons.{Reason, statusOf, firstOf}
 use Rattle.model.specs.Rules.{RadioRule}
 use Rattle.model.specs.WellFormed.{addressed, settingsFit}
 use Rattle.rules.specs.declared.Decision.{Decision}
@@ -38,12 +36,6 @@ beforeBusyOf d none = d
 unfoldable pub decision : RadioRule → RadioSettings → Octets → Decision
 decision r x ps = beforeBusyOf (afterBusyOf (r .waits x ps) (firstOf (r .afterBusy x ps))) (firstOf (r .beforeBusy x ps))
 
--- the first of the checks that fails, and its status
-pub record Fails (cs : List Check) (status : ℕ) : Type 0 where
-  pub reason : Reason
-  pub first : firstOf cs ≡ some reason
-  pub told : statusOf reason ≡ status
-
 -- the answer of each decision with nothing under way, where n octets are written: its number and count are the table's (01, What a call answers)
 abbrev pub decisionAnswer : ℕ → Decision → Answer
 decisionAnswer n (Refuse s) = Refused n
@@ -59,8 +51,8 @@ decisionStatus Wait = 0
 decisionStatus Act = 0
 
 -- a decision that waits: the command is started
-unfoldable pub isWait : Decision → Bool
-isWait d = eqb (numberOf (decisionAnswer 0 d)) (numberOf Started)
+unfoldable pub isStarted : Decision → Bool
+isStarted d = eqb (numberOf (decisionAnswer 0 d)) (numberOf Started)
 
 -- what the settings alone must keep: connectable for discoverable, power and discoverable for a timer, an address for power (01, The image, Well formed)
 unfoldable pub settingsOk : Settings → Bool

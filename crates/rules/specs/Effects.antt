@@ -1,6 +1,5 @@
 -- What the commands and the clock make of a controller's settings, and the controller with other settings.
 -- Assumes nothing.
-use mathlib.Core.Path.{_≡_}
 use mathlib.Core.Bool.{Bool}
 use mathlib.Core.List.{[]}
 use Rattle.model.specs.Octets.{Octets}
@@ -29,11 +28,6 @@ controllerOf m = record { radio = m .radio; host = record { settings = m .host; 
 -- what a settings command makes of the settings: its effect on a controller, seen in the settings alone
 unfoldable pub settingsEffect : RadioRule → Settings → Octets → Settings
 settingsEffect r m ps = settingsOf (r .effect (controllerOf m) ps)
-
--- a settings command changes the settings alone, and what it makes of them rests on them and the parameters alone
-pub record OnlySettings (r : RadioRule) (c : Controller) (ps : Octets) : Type 0 where
-  pub settings : settingsOf (r .effect c ps) ≡ settingsEffect r (settingsOf c) ps
-  pub whole : r .effect c ps ≡ withSettings c (settingsEffect r (settingsOf c) ps)
 
 -- the settings with another timer: Set Discoverable, and the clock
 unfoldable pub settingsTimer : Settings → Timer → Settings

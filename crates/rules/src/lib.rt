@@ -3,10 +3,10 @@ ghost use mathlib.Core.Path.{_≡_};
 ghost use mathlib.Core.Bool.{_&&_, _||_};
 ghost use Prim.Native.Nat.{_≤_};
 ghost use lib.ListN.{length};
-ghost use Rattle.model.specs.State as T;
-ghost use Rattle.model.specs.Hub as C;
+ghost use Rattle.model.specs.State as State;
+ghost use Rattle.model.specs.Hub as Hub;
 ghost use Rattle.model.specs.Image.{radioOk};
-ghost use Rattle.model.specs.WellFormed as W;
+ghost use Rattle.model.specs.WellFormed as WellFormed;
 ghost use Rattle.model.specs.Rules.{setPowered, setDiscoverable, setConnectable, setLowEnergy, setStaticAddress};
 ghost use Rattle.rules.specs.Decisions.{decision, settingsOk};
 ghost use Rattle.rules.specs.Effects.{settingsEffect, settingsTimer, settingsBondable};
@@ -15,6 +15,7 @@ use model::HostSettings;
 use model::RadioSettings;
 use model::Settings;
 use model::Timer;
+use model::statuses;
 
 // What a settings command comes to, Busy aside: refused before Busy, or after it, with a status; or it waits for the radio, or acts at once.
 pub enum Decision {
@@ -47,23 +48,23 @@ fn either(a: bool, b: bool) -> bool
 }
 
 // Whether the hardware has BR/EDR.
-pub fn bredr_supported(f: Hardware) -> bool
-    ensures { λ r. ⌜ r ≡ T.bredrSupported f ⌝ }
+fn bredr_supported(f: Hardware) -> bool
+    ensures { λ r. ⌜ r ≡ State.bredrSupported f ⌝ }
 {
     f.supported / 128 % 2 == 1
 }
 
 // Whether the hardware has Low Energy.
-pub fn le_supported(f: Hardware) -> bool
-    ensures { λ r. ⌜ r ≡ T.leSupported f ⌝ }
+fn le_supported(f: Hardware) -> bool
+    ensures { λ r. ⌜ r ≡ State.leSupported f ⌝ }
 {
     f.supported / 512 % 2 == 1
 }
 
 // Whether an address is zero or static random: then its sixth octet is 0xC0 or more.
-pub fn static_address_ok(a: &[u8]) -> bool
+fn static_address_ok(a: &[u8]) -> bool
     requires { ⌜ 6 ≤ length (now a) ⌝ }
-    ensures { λ r. ⌜ r ≡ T.staticAddressOk (now (a .entry)) ⌝ }
+    ensures { λ r. ⌜ r ≡ State.staticAddressOk (now (a .entry)) ⌝ }
 {
     if octets::all_zero(a) {
         return true;
@@ -72,8 +73,8 @@ pub fn static_address_ok(a: &[u8]) -> bool
 }
 
 // Whether there is a public or a static address.
-pub fn addressed(r: RadioSettings) -> bool
-    ensures { λ q. ⌜ q ≡ W.addressed r ⌝ }
+fn addressed(r: RadioSettings) -> bool
+    ensures { λ q. ⌜ q ≡ WellFormed.addressed r ⌝ }
 {
     let f = r.hardware;
     let public = f.publicAddress;
@@ -89,7 +90,7 @@ pub fn addressed(r: RadioSettings) -> bool
 
 // Whether the static address stands in for the public one: bit 15 of Current_Settings.
 fn static_in_use(r: RadioSettings) -> bool
-    ensures { λ q. ⌜ q ≡ T.staticInUse r ⌝ }
+    ensures { λ q. ⌜ q ≡ State.staticInUse r ⌝ }
 {
     let own = r.staticAddress;
     if octets::all_zero(&own) {
@@ -103,15 +104,15 @@ fn static_in_use(r: RadioSettings) -> bool
 // Current_Settings
 
 // The value of a bit that is on or off.
-fn flag_of(b: bool, n: u64) -> u64
-    ensures { λ r. ⌜ (r ≡ T.flag b n) × (r ≤ n) ⌝ }
+pub fn flag_of(b: bool, n: u64) -> u64
+    ensures { λ r. ⌜ (r ≡ State.flag b n) × (r ≤ n) ⌝ }
 {
     if b { n } else { 0 }
 }
 
 // Current_Settings of a controller with these settings.
 pub fn current_settings(m: Settings) -> u64
-    ensures { λ r. ⌜ r ≡ T.currentSettings m ⌝ }
+    ensures { λ r. ⌜ r ≡ State.currentSettings m ⌝ }
 {
     let r = m.radio;
     let f = r.hardware;
@@ -136,7 +137,7 @@ pub fn decide_powered(r: RadioSettings, ps: &[u8]) -> Decision
 {
     let v = ps[0];
     if 1 < v {
-        return Decision::Refuse(0x0D);
+        return Decision::Refuse(statuses::INVALID_PARAMETERS);
     }
     if v == 1 {
         if addressed(r) {
@@ -145,7 +146,7 @@ pub fn decide_powered(r: RadioSettings, ps: &[u8]) -> Decision
             }
             return Decision::Wait;
         }
-        return Decision::Reject(0x0B);
+        return Decision::Reject(statuses::REJECTED);
     }
     if r.powered {
         return Decision::Wait;
@@ -161,27 +162,27 @@ pub fn decide_discoverable(r: RadioSettings, ps: &[u8]) -> Decision
     let v = ps[0];
     let seconds = octets::u16_at(ps, 1);
     if 2 < v {
-        return Decision::Refuse(0x0D);
+        return Decision::Refuse(statuses::INVALID_PARAMETERS);
     }
     if both(v == 0, seconds != 0) {
-        return Decision::Refuse(0x0D);
+        return Decision::Refuse(statuses::INVALID_PARAMETERS);
     }
     if both(v == 2, seconds == 0) {
-        return Decision::Refuse(0x0D);
+        return Decision::Refuse(statuses::INVALID_PARAMETERS);
     }
     if bredr_supported(r.hardware) {
         if both(!r.powered, seconds != 0) {
-            return Decision::Refuse(0x0F);
+            return Decision::Refuse(statuses::NOT_POWERED);
         }
         if both(v != 0, !r.connectable) {
-            return Decision::Reject(0x0B);
+            return Decision::Reject(statuses::REJECTED);
         }
         if r.powered {
             return Decision::Wait;
         }
         return Decision::Act;
     }
-    Decision::Refuse(0x0C)
+    Decision::Refuse(statuses::NOT_SUPPORTED)
 }
 
 // 0x0007 Set Connectable.
@@ -190,7 +191,7 @@ pub fn decide_connectable(r: RadioSettings, ps: &[u8]) -> Decision
     ensures { λ d. ⌜ d ≡ decision setConnectable r (now (ps .entry)) ⌝ }
 {
     if 1 < ps[0] {
-        return Decision::Refuse(0x0D);
+        return Decision::Refuse(statuses::INVALID_PARAMETERS);
     }
     if r.powered {
         return Decision::Wait;
@@ -205,19 +206,19 @@ pub fn decide_low_energy(r: RadioSettings, ps: &[u8]) -> Decision
 {
     let v = ps[0];
     if 1 < v {
-        return Decision::Refuse(0x0D);
+        return Decision::Refuse(statuses::INVALID_PARAMETERS);
     }
     let f = r.hardware;
     if le_supported(f) {
         if both(v != 1, !bredr_supported(f)) {
-            return Decision::Reject(0x0B);
+            return Decision::Reject(statuses::REJECTED);
         }
         if r.powered {
             return Decision::Wait;
         }
         return Decision::Act;
     }
-    Decision::Refuse(0x0C)
+    Decision::Refuse(statuses::NOT_SUPPORTED)
 }
 
 // 0x002B Set Static Address.
@@ -228,20 +229,20 @@ pub fn decide_static_address(r: RadioSettings, ps: &[u8]) -> Decision
     if static_address_ok(ps) {
         if le_supported(r.hardware) {
             if r.powered {
-                return Decision::Reject(0x0B);
+                return Decision::Reject(statuses::REJECTED);
             }
             return Decision::Act;
         }
-        return Decision::Refuse(0x0C);
+        return Decision::Refuse(statuses::NOT_SUPPORTED);
     }
-    Decision::Refuse(0x0D)
+    Decision::Refuse(statuses::INVALID_PARAMETERS)
 }
 
 // Effects
 
 // Not discoverable, and no timer.
 fn no_timer() -> Timer
-    ensures { λ r. ⌜ r ≡ T.noTimer ⌝ }
+    ensures { λ r. ⌜ r ≡ State.noTimer ⌝ }
 {
     Timer {
         discoverable: false,
@@ -384,21 +385,21 @@ pub fn effect_static_address(m: Settings, ps: &[u8]) -> Settings
 
 // The step from the last reading to a new one, of a clock of 32 bits that wraps.
 pub fn clock_step(last: u32, reading: u32) -> u32
-    ensures { λ r. ⌜ r ≡ C.stepOf last reading ⌝ }
+    ensures { λ r. ⌜ r ≡ Hub.stepOf last reading ⌝ }
 {
     std::num::wrapping_sub_u32(reading, last)
 }
 
 // Whether a timer runs and ends within the step.
 pub fn ends(t: Timer, step: u32) -> bool
-    ensures { λ r. ⌜ r ≡ C.ends step t ⌝ }
+    ensures { λ r. ⌜ r ≡ Hub.ends step t ⌝ }
 {
     both(t.seconds != 0, t.seconds as u32 <= step)
 }
 
 // The timer after the step.
 pub fn countdown(t: Timer, step: u32) -> Timer
-    ensures { λ r. ⌜ r ≡ C.countdown step t ⌝ }
+    ensures { λ r. ⌜ r ≡ Hub.countdown step t ⌝ }
 {
     if ends(t, step) {
         return no_timer();
@@ -416,7 +417,7 @@ pub fn countdown(t: Timer, step: u32) -> Timer
 
 // What plug and an image may give.
 pub fn hardware_ok(f: Hardware) -> bool
-    ensures { λ r. ⌜ r ≡ T.hardwareOk f ⌝ }
+    ensures { λ r. ⌜ r ≡ State.hardwareOk f ⌝ }
 {
     if f.supported < 65536 {
         if bredr_supported(f) {

@@ -9,6 +9,9 @@ use mathlib.Core.Option.{none, some}
 use lib.ListN.{length, getD}
 use lib.Dec.{eqb}
 use borrow.Author.Tests.{eq-eqb, ne-eqb, lt-ltb, le-ltb}
+use Rattle.model.specs.Statuses as Statuses
+use Rattle.model.specs.Codes as Codes
+use Rattle.model.specs.Lengths as Lengths
 use Rattle.model.specs.declared.Settings.{Settings}
 use Rattle.model.specs.declared.RadioSettings.{RadioSettings}
 use Rattle.model.specs.Octets.{Octets, octet, u16, le32, commandComplete, commandStatus}
@@ -30,11 +33,12 @@ use Rattle.replies.proofs.Laws.{settings-short}
 use Rattle.rules.specs.declared.Decision.{Decision}
 use Rattle.rules.specs.declared.Decision.the-variants.{Refuse, Reject, Wait, Act}
 use Rattle.rules.specs.Decisions.{decision}
-use Rattle.rules.specs.Effects.{withSettings, settingsBondable, settingsEffect, OnlySettings}
-use Rattle.rules.proofs.Ties.{refuse-fails, reject-fails, wait-passes, act-passes, bondable-only}
-use Rattle.outcomes.specs.Outcomes.{served, contended}
-use Rattle.outcomes.proofs.Endings.{served-length, served-status, served-done, contended-length, contended-early, contended-busy, contended-late, contended-started, contended-done}
-use Rattle.settings.specs.Follows.{Follows, Concludes}
+use Rattle.rules.specs.Effects.{withSettings, settingsBondable, settingsEffect}
+use Rattle.rules.proofs.Ties.{refuse-fails, reject-fails, wait-passes, act-passes, bondable-only, OnlySettings}
+use Rattle.outcomes.specs.Outcomes.{immediateCommand, radioCommand}
+use Rattle.outcomes.proofs.Endings.{immediate-length, immediate-status, immediate-done, radio-length, radio-early, radio-busy, radio-late}
+use Rattle.outcomes.proofs.Endings.{radio-started, radio-done}
+use Rattle.settings.specs.Follows.{Follows, CarriesOut}
 
 -- 1. The reply ------------------------------------------------------------------------------------------------------------------------------------
 
@@ -54,7 +58,8 @@ bondable-bad i c ps h = rw (lt-ltb 1 (getD ps 0 0) h)
 -- 0 or 1 is done at once: Current_Settings is returned, and New Settings follows on change
 bondable-good : (i : ℕ) (c : Controller) (ps : Octets) → getD ps 0 0 ≤ 1
     → setBondable .act i c ps
-    ≡ done (le32 (currentSettings (settingsOf (withHost c (withBondable (c .host) (on ps)))))) (newSettings i c (withHost c (withBondable (c .host) (on ps)))) (withBondable (c .host) (on ps))
+    ≡ done (le32 (currentSettings (settingsOf (withHost c (withBondable (c .host) (on ps))))))
+    (newSettings i c (withHost c (withBondable (c .host) (on ps)))) (withBondable (c .host) (on ps))
 unfolding setBondable octet firstOf unless withHost
 bondable-good i c ps h = rw (le-ltb 1 (getD ps 0 0) h)
 
@@ -78,37 +83,46 @@ bondable-settings : (c : Controller) (b : Bool) → settingsOf (withHost c (with
 unfolding settingsOf withHost withBondable settingsBondable
 bondable-settings c b = refl
 
-module _ (s : Octets) (i : ℕ) (ps d d′ : Octets) (r : Answer) (given : Ready s i) (big : 1024 ≤ length d) where
+module _ (s : Octets) (i : ℕ) (ps d d′ : Octets) (r : Answer) (given : Ready s i) (big : Lengths.replyBuffer ≤ length d) where
   -- another length
-  pub bondable-length : (length ps ≡ 1 → ⊥) → r ≡ Refused 9 → d′ ≡ writeAt d 0 (commandStatus i 0x0009 0x0D) → Gives (served s i 0x0009 ps setBondable) r d d′ s
-  bondable-length e n w = served-length s i 0x0009 ps setBondable d d′ r given big (bondable-other ps e) n w
+  pub bondable-length : (length ps ≡ 1 → ⊥) → r ≡ Refused 9 → d′ ≡ writeAt d 0 (commandStatus i Codes.setBondable Statuses.invalidParameters)
+      → Gives (immediateCommand s i Codes.setBondable ps setBondable) r d d′ s
+  bondable-length e n w = immediate-length s i Codes.setBondable ps setBondable d d′ r given big (bondable-other ps e) n w
 
   -- another value
-  pub bondable-refused : length ps ≡ 1 → 1 < getD ps 0 0 → r ≡ Refused 9 → d′ ≡ writeAt d 0 (commandStatus i 0x0009 0x0D) → Gives (served s i 0x0009 ps setBondable) r d d′ s
+  pub bondable-refused : length ps ≡ 1 → 1 < getD ps 0 0 → r ≡ Refused 9
+      → d′ ≡ writeAt d 0 (commandStatus i Codes.setBondable Statuses.invalidParameters)
+      → Gives (immediateCommand s i Codes.setBondable ps setBondable) r d d′ s
   unfolding statusOf setBondable
-  bondable-refused e h n w = served-status s i 0x0009 ps setBondable d d′ r given big (bondable-one ps e) valueAbove1 refl (bondable-bad i (controllerOf s i) ps h) n w
+  bondable-refused e h n w =
+      immediate-status s i Codes.setBondable ps setBondable d d′ r given big (bondable-one ps e) valueAbove1 refl (bondable-bad i (controllerOf s i) ps h) n w
 
   -- done
-  pub bondable-done : (s′ : Octets) (old new : Settings) → length ps ≡ 1 → getD ps 0 0 ≤ 1 → old ≡ settingsOf (controllerOf s i) → new ≡ settingsBondable old (eqb (getD ps 0 0) 1)
-      → r ≡ Done (length (settingsReply i 0x0009 (currentSettings old) (currentSettings new))) → d′ ≡ writeAt d 0 (settingsReply i 0x0009 (currentSettings old) (currentSettings new))
-      → s′ ≡ encode (putController (decode s) i (withSettings (controllerOf s i) new)) → Gives (served s i 0x0009 ps setBondable) r d d′ s′
+  pub bondable-done : (s′ : Octets) (old new : Settings) → length ps ≡ 1 → getD ps 0 0 ≤ 1 → old ≡ settingsOf (controllerOf s i)
+      → new ≡ settingsBondable old (eqb (getD ps 0 0) 1)
+      → r ≡ Done (length (settingsReply i Codes.setBondable (currentSettings old) (currentSettings new)))
+      → d′ ≡ writeAt d 0 (settingsReply i Codes.setBondable (currentSettings old) (currentSettings new))
+      → s′ ≡ encode (putController (decode s) i (withSettings (controllerOf s i) new)) → Gives (immediateCommand s i Codes.setBondable ps setBondable) r d d′ s′
   bondable-done s′ old new l h eo en er ed es =
       let c = controllerOf s i in
       let e = withHost c (withBondable (c .host) (on ps)) in
       let m : new ≡ settingsBondable (settingsOf c) (on ps) = en ∙ rw (eo, on-is ps) in
-      let x : settingsReply i 0x0009 (currentSettings old) (currentSettings new) ≡ commandComplete i 0x0009 0 (le32 (currentSettings (settingsOf e))) ++ newSettings i c e =
-      rw (m, eo, ← bondable-settings c (on ps)) (reply-is i 0x0009 c e) in
+      let x : settingsReply i Codes.setBondable (currentSettings old) (currentSettings new) ≡ commandComplete i Codes.setBondable 0
+      (le32 (currentSettings (settingsOf e))) ++ newSettings i c e =
+      rw (m, eo, ← bondable-settings c (on ps)) (reply-is i Codes.setBondable c e) in
       let k : s′ ≡ encode (putController (decode s) i e) = es ∙ rw (m, ← bondable-only c (on ps)) in
-      let short = settings-short i 0x0009 (currentSettings old) (currentSettings new) in
-      served-done s i 0x0009 ps setBondable d d′ r given big (bondable-one ps l) s′ (le32 (currentSettings (settingsOf e))) (newSettings i c e) (withBondable (c .host) (on ps))
-      (length (settingsReply i 0x0009 (currentSettings old) (currentSettings new))) (bondable-good i c ps h) er (rw x) (omega arith) (ed ∙ rw x) k
+      let short = settings-short i Codes.setBondable (currentSettings old) (currentSettings new) in
+      immediate-done s i Codes.setBondable ps setBondable d d′ r given big (bondable-one ps l) s′ (le32 (currentSettings (settingsOf e)))
+      (newSettings i c e) (withBondable (c .host) (on ps))
+      (length (settingsReply i Codes.setBondable (currentSettings old) (currentSettings new))) (bondable-good i c ps h) er (rw x) (omega arith) (ed ∙ rw x) k
 
 -- 3. The commands that can be Busy ----------------------------------------------------------------------------------------------------------------
 
-module _ (s : Octets) (i code : ℕ) (ps : Octets) (u : RadioRule) (d d′ : Octets) (r : Answer) (given : Ready s i) (big : 1024 ≤ length d) where
+module _ (s : Octets) (i code : ℕ) (ps : Octets) (u : RadioRule) (d d′ : Octets) (r : Answer) (given : Ready s i) (big : Lengths.replyBuffer ≤ length d) where
   -- another length
-  pub ends-length : (n : ℕ) → n ≡ u .size → (length ps ≡ n → ⊥) → r ≡ Refused 9 → d′ ≡ writeAt d 0 (commandStatus i code 0x0D) → Gives (contended s i code ps u) r d d′ s
-  ends-length n z e a w = contended-length s i code ps u d d′ r given big (ne-eqb (length ps) (u .size) (λ q. e (q ∙ sym z))) a w
+  pub ends-length : (n : ℕ) → n ≡ u .size → (length ps ≡ n → ⊥) → r ≡ Refused 9 → d′ ≡ writeAt d 0 (commandStatus i code Statuses.invalidParameters)
+      → Gives (radioCommand s i code ps u) r d d′ s
+  ends-length n z e a w = radio-length s i code ps u d d′ r given big (ne-eqb (length ps) (u .size) (λ q. e (q ∙ sym z))) a w
 
   module _ (x : Decision) (old new : Settings) (f : Follows u s i ps x old new) where
     -- the parameters pass the length test of the rule
@@ -116,33 +130,37 @@ module _ (s : Octets) (i code : ℕ) (ps : Octets) (u : RadioRule) (d d′ : Oct
     size = eq-eqb (length ps) (u .size) (f .sized)
 
     -- refused before Busy
-    pub ends-early : (st : ℕ) → x ≡ Refuse st → r ≡ Refused 9 → d′ ≡ writeAt d 0 (commandStatus i code st) → Gives (contended s i code ps u) r d d′ s
+    pub ends-early : (st : ℕ) → x ≡ Refuse st → r ≡ Refused 9 → d′ ≡ writeAt d 0 (commandStatus i code st) → Gives (radioCommand s i code ps u) r d d′ s
     ends-early st e n w =
         let g = refuse-fails u (controllerOf s i .radio) ps st (f .decided ∙ e) in
-        contended-early s i code ps u d d′ r given big size (g .reason) (g .first) n (w ∙ rw (g .told))
+        radio-early s i code ps u d d′ r given big size (g .reason) (g .first) n (w ∙ rw (g .told))
 
     -- Busy
-    pub ends-busy : firstOf (u .beforeBusy (controllerOf s i .radio) ps) ≡ none → (u16 s (placeOf i 1) ≡ 0 → ⊥) → r ≡ Refused 9 → d′ ≡ writeAt d 0 (commandStatus i code 0x0A)
-        → Gives (contended s i code ps u) r d d′ s
-    ends-busy p o n w = contended-busy s i code ps u d d′ r given big size p _ (open-command s i given o) n w
+    pub ends-busy : firstOf (u .beforeBusy (controllerOf s i .radio) ps) ≡ none → (u16 s (placeOf i 1) ≡ 0 → ⊥) → r ≡ Refused 9
+        → d′ ≡ writeAt d 0 (commandStatus i code Statuses.busy)
+        → Gives (radioCommand s i code ps u) r d d′ s
+    ends-busy p o n w = radio-busy s i code ps u d d′ r given big size p _ (open-command s i given o) n w
 
     -- Rejected
-    pub ends-late : (st : ℕ) → x ≡ Reject st → u16 s (placeOf i 1) ≡ 0 → r ≡ Refused 9 → d′ ≡ writeAt d 0 (commandStatus i code st) → Gives (contended s i code ps u) r d d′ s
+    pub ends-late : (st : ℕ) → x ≡ Reject st → u16 s (placeOf i 1) ≡ 0 → r ≡ Refused 9 → d′ ≡ writeAt d 0 (commandStatus i code st)
+        → Gives (radioCommand s i code ps u) r d d′ s
     ends-late st e o n w =
         let g = reject-fails u (controllerOf s i .radio) ps st (f .decided ∙ e) in
-        contended-late s i code ps u d d′ r given big size (g .0) (open-nothing s i given o) (g .1 .reason) (g .1 .first) n (w ∙ rw (g .1 .told))
+        radio-late s i code ps u d d′ r given big size (g .0) (open-nothing s i given o) (g .1 .reason) (g .1 .first) n (w ∙ rw (g .1 .told))
 
     -- started
-    pub ends-started : x ≡ Wait → u16 s (placeOf i 1) ≡ 0 → r ≡ Started → (s′ : Octets) → s′ ≡ encode (withOpen (decode s) i (some (record { code = code; params = ps }))) → d′ ≡ d
-        → Gives (contended s i code ps u) r d d′ s′
+    pub ends-started : x ≡ Wait → u16 s (placeOf i 1) ≡ 0 → r ≡ Started → (s′ : Octets)
+        → s′ ≡ encode (withOpen (decode s) i (some (record { code = code; params = ps }))) → d′ ≡ d
+        → Gives (radioCommand s i code ps u) r d d′ s′
     ends-started e o n s′ k w =
         let g = wait-passes u (controllerOf s i .radio) ps (f .decided ∙ e) in
-        contended-started s i code ps u d d′ r given big size (g .0) (open-nothing s i given o) (g .1) (g .2) n s′ k w
+        radio-started s i code ps u d d′ r given big size (g .0) (open-nothing s i given o) (g .1) (g .2) n s′ k w
 
     -- done at once
     pub ends-acted : x ≡ Act → u16 s (placeOf i 1) ≡ 0 → (s′ : Octets) → r ≡ Done (length (settingsReply i code (currentSettings old) (currentSettings new)))
-        → d′ ≡ writeAt d 0 (settingsReply i code (currentSettings old) (currentSettings new)) → s′ ≡ encode (putController (decode s) i (withSettings (controllerOf s i) new))
-        → Gives (contended s i code ps u) r d d′ s′
+        → d′ ≡ writeAt d 0 (settingsReply i code (currentSettings old) (currentSettings new))
+        → s′ ≡ encode (putController (decode s) i (withSettings (controllerOf s i) new))
+        → Gives (radioCommand s i code ps u) r d d′ s′
     ends-acted e o s′ n w k =
         let g = act-passes u (controllerOf s i .radio) ps (f .decided ∙ e) in
         let c = controllerOf s i in
@@ -150,7 +168,8 @@ module _ (s : Octets) (i code : ℕ) (ps : Octets) (u : RadioRule) (d d′ : Oct
         ≡ commandComplete i code 0 (le32 (currentSettings (settingsOf (u .effect c ps)))) ++ newSettings i c (u .effect c ps) =
         rw (f .before, ← f .after) (reply-is i code c (u .effect c ps)) in
         let short = settings-short i code (currentSettings old) (currentSettings new) in
-        contended-done s i code ps u d d′ r given big size (g .0) (open-nothing s i given o) (g .1) (g .2) s′ (settingsReply i code (currentSettings old) (currentSettings new))
+        radio-done s i code ps u d d′ r given big size (g .0) (open-nothing s i given o) (g .1) (g .2) s′
+        (settingsReply i code (currentSettings old) (currentSettings new))
         (length (settingsReply i code (currentSettings old) (currentSettings new))) n y refl (omega arith) w (k ∙ rw (f .whole))
 
 -- a decision of another kind is past the checks before Busy
@@ -171,8 +190,9 @@ module _ (s : Octets) (i : ℕ) (ps : Octets) (u : RadioRule) (x : Decision) (ol
 
 -- from the decision and the effect by value to the end that they share
 pub concluded : (s : Octets) (i code : ℕ) (ps : Octets) (u : RadioRule) (d d′ s′ : Octets) (r : Answer) (x : Decision) (old new : Settings) (n : ℕ)
-    → OnlySettings u (controllerOf s i) ps → n ≡ u .size → length ps ≡ n → old ≡ settingsOf (controllerOf s i) → x ≡ decision u (old .radio) ps → new ≡ settingsEffect u old ps
-    → Concludes s i code ps x old new r d d′ s′ → Gives (contended s i code ps u) r d d′ s′
+    → OnlySettings u (controllerOf s i) ps → n ≡ u .size → length ps ≡ n → old ≡ settingsOf (controllerOf s i) → x ≡ decision u (old .radio) ps
+    → new ≡ settingsEffect u old ps
+    → CarriesOut s i code ps x old new r d d′ s′ → Gives (radioCommand s i code ps u) r d d′ s′
 unfolding settingsOf
 concluded s i code ps u d d′ s′ r x old new n only z l eo ex en all =
     let c = controllerOf s i in

@@ -9,6 +9,9 @@ use mathlib.Core.Option.{Option, none, some}
 use lib.ListN.{length, getD}
 use lib.Dec.{eqb, ltb}
 use borrow.Author.Tests.{ne-eqb, lt-ltb, le-ltb, ltb-true, ltb-false}
+use Rattle.model.specs.Statuses as Statuses
+use Rattle.model.specs.Codes as Codes
+use Rattle.model.specs.Lengths as Lengths
 use Rattle.model.specs.declared.Settings.{Settings}
 use Rattle.model.specs.declared.RadioSettings.{RadioSettings}
 use Rattle.model.specs.Octets.{Octets, u16, le32, commandComplete, commandStatus}
@@ -31,8 +34,8 @@ use Rattle.replies.specs.Frames.{settingsReply}
 use Rattle.model.specs.declared.Answer.{Answer}
 use Rattle.model.specs.declared.Answer.the-variants.{Done, BadArgument}
 use Rattle.replies.proofs.Laws.{gives-written, settings-short}
-use Rattle.rules.specs.Effects.{withSettings, settingsEffect, OnlySettings}
-use Rattle.rules.proofs.Ties.{powered-only, discoverable-only, connectable-only, low-energy-only}
+use Rattle.rules.specs.Effects.{withSettings, settingsEffect}
+use Rattle.rules.proofs.Ties.{powered-only, discoverable-only, connectable-only, low-energy-only, OnlySettings}
 use Rattle.outcomes.specs.Outcomes.{ended, reported}
 use Rattle.outcomes.proofs.Endings.{ends-silent}
 use Rattle.settings.specs.Opens.{Opens, opens-powered, opens-discoverable, opens-connectable, opens-low-energy, Makes}
@@ -66,7 +69,7 @@ held-radio : (code : ℕ) (u : RadioRule) → Opens code u → Held code (radio 
 held-radio code u o r ps e = record { by = u; kind = refl; opens = o }
 
 -- Set Static Address can be Busy, but never waits itself
-held-static : Held 0x002B (radio setStaticAddress)
+held-static : Held Codes.setStaticAddress (radio setStaticAddress)
 unfolding startsBy setStaticAddress
 held-static r ps e =
     let a = and-true (eqb (length ps) (setStaticAddress .size)) _ e in
@@ -150,7 +153,8 @@ unfolding find AllHeld
 found code [] x a e = let z : _≡_ {A = ℕ} 0 1 = cc in absurd (omega arith)
 found code (y ∷ ys) x a e = go (eqb (y .0) code) refl e (found code ys x (a .1))
   where
-    go : (b : Bool) → eqb (y .0) code ≡ b → _≡_ {A = Option Rule} (elim b [ true ↦ some (y .1) | false ↦ find code ys ]) (some x) → (find code ys ≡ some x → Held code x) → Held code x
+    go : (b : Bool) → eqb (y .0) code ≡ b → _≡_ {A = Option Rule} (elim b [ true ↦ some (y .1) | false ↦ find code ys ]) (some x)
+        → (find code ys ≡ some x → Held code x) → Held code x
     go true t f more = let p : y .1 ≡ x = cc in let q : y .0 ≡ code = equal (y .0) code t in rw (p, q) at (a .0)
     go false t f more = more f
 
@@ -209,11 +213,13 @@ pub makes-by : (code k : ℕ) (s : Octets) (at n : ℕ) (old new : Settings) (u 
 makes-by code k s at n old new u ps o e z l m w p = rw (opens-one k code u w o p (sym e)) (m ∙ rw (l, z))
 
 -- the last of the four codes
-pub makes-last : (code : ℕ) (s : Octets) (at n : ℕ) (old new : Settings) (ps : Octets) → (code ≡ 0x0005 → ⊥) → (code ≡ 0x0006 → ⊥) → (code ≡ 0x0007 → ⊥) → n ≡ setLowEnergy .size
+pub makes-last : (code : ℕ) (s : Octets) (at n : ℕ) (old new : Settings) (ps : Octets) → (code ≡ Codes.setPowered → ⊥)
+    → (code ≡ Codes.setDiscoverable → ⊥) → (code ≡ Codes.setConnectable → ⊥) → n ≡ setLowEnergy .size
     → ps ≡ part s at n → new ≡ settingsEffect setLowEnergy old ps → Makes code s at old new
 makes-last code s at n old new ps a b d z l m w p = go code w p a b d
   where
-    go : (j : ℕ) (v : RadioRule) → Opens j v → (j ≡ 0x0005 → ⊥) → (j ≡ 0x0006 → ⊥) → (j ≡ 0x0007 → ⊥) → new ≡ settingsEffect v old (part s at (v .size))
+    go : (j : ℕ) (v : RadioRule) → Opens j v → (j ≡ Codes.setPowered → ⊥) → (j ≡ Codes.setDiscoverable → ⊥) → (j ≡ Codes.setConnectable → ⊥)
+        → new ≡ settingsEffect v old (part s at (v .size))
     go j v opens-powered x y q = absurd (x refl)
     go j v opens-discoverable x y q = absurd (y refl)
     go j v opens-connectable x y q = absurd (q refl)
@@ -248,9 +254,9 @@ unfolding reported reportOut ended
 report-none s i status e = rw e
 
 -- a status above 0x14: answer 6, and the command stays under way
-out-above : (h : Hub) (i status : ℕ) (o : OpenCommand) → 0x14 < status → reportOut h i status (some o) ≡ keep h badArgument
+out-above : (h : Hub) (i status : ℕ) (o : OpenCommand) → Statuses.highest < status → reportOut h i status (some o) ≡ keep h badArgument
 unfolding reportOut
-out-above h i status o l = rw (lt-ltb 0x14 status l, reportOut)
+out-above h i status o l = rw (lt-ltb Statuses.highest status l, reportOut)
 
 -- status 0: the command is no longer under way, and acts
 out-done : (h : Hub) (i status : ℕ) (o : OpenCommand) → status ≡ 0 → reportOut h i status (some o) ≡ keep (withOpen h i none) (finish (h .plain) i o)
@@ -258,10 +264,10 @@ unfolding reportOut
 out-done h i status o e = rw e
 
 -- status 0x01 to 0x14: Command Status with it, and the command is dropped
-out-failed : (h : Hub) (i status : ℕ) (o : OpenCommand) → status ≤ 0x14 → (status ≡ 0 → ⊥)
+out-failed : (h : Hub) (i status : ℕ) (o : OpenCommand) → status ≤ Statuses.highest → (status ≡ 0 → ⊥)
     → reportOut h i status (some o) ≡ record { answer = 0; octets = commandStatus i (o .code) status; state = withOpen h i none }
 unfolding reportOut
-out-failed h i status o l n = rw (le-ltb 0x14 status l, reportOut, ne-eqb status 0 n)
+out-failed h i status o l n = rw (le-ltb Statuses.highest status l, reportOut, ne-eqb status 0 n)
 
 -- the model's acting command, by its rule
 finish-is : (p : PlainHub) (i : ℕ) (o : OpenCommand) (u : RadioRule) (c : Controller) → rule (o .code) ≡ some (radio u) → controllerAt p i ≡ some c
@@ -294,12 +300,15 @@ unfolding answerOf octetsOf stateOf
 report-idle s d i status g e = rw (report-none s i status (open-nothing s i g e)) (ends-silent s d badArgument BadArgument (g .ok) refl refl refl refl)
 
 -- the same, of a command under way and a status above 0x14
-pub report-above : (s d : Octets) (i status : ℕ) → Ready s i → (u16 s (placeOf i 1) ≡ 0 → ⊥) → 0x14 < status → Gives (reported s i status) BadArgument d d s
+pub report-above : (s d : Octets) (i status : ℕ) → Ready s i → (u16 s (placeOf i 1) ≡ 0 → ⊥) → Statuses.highest < status
+    → Gives (reported s i status) BadArgument d d s
 unfolding reported ended answerOf octetsOf stateOf
-report-above s d i status g e l = rw (open-command s i g e, out-above (decode s) i status _ l) (ends-silent s d badArgument BadArgument (g .ok) refl refl refl refl)
+report-above s d i status g e l =
+    rw (open-command s i g e, out-above (decode s) i status _ l) (ends-silent s d badArgument BadArgument (g .ok) refl refl refl refl)
 
 -- the command failed
-pub report-failed : (s d d′ s′ : Octets) (i status code : ℕ) → Ready s i → 1024 ≤ length d → code ≡ u16 s (placeOf i 1) → (code ≡ 0 → ⊥) → status ≤ 0x14 → (status ≡ 0 → ⊥)
+pub report-failed : (s d d′ s′ : Octets) (i status code : ℕ) → Ready s i → Lengths.replyBuffer ≤ length d → code ≡ u16 s (placeOf i 1)
+    → (code ≡ 0 → ⊥) → status ≤ Statuses.highest → (status ≡ 0 → ⊥)
     → d′ ≡ writeAt d 0 (commandStatus i code status) → s′ ≡ encode (withOpen (decode s) i none) → Gives (reported s i status) (Done 9) d d′ s′
 unfolding reported laidOut
 report-failed s d d′ s′ i status code g big ec n l z w k =
@@ -318,14 +327,16 @@ unfolding openOf
 open-read s i g n = open-command s i g n
 
 -- the same, of a code and a place that were read before
-open-as : (s : Octets) (i at code : ℕ) → Ready s i → code ≡ u16 s (placeOf i 1) → at ≡ placeOf i 1 + 2 → (code ≡ 0 → ⊥) → openAt s i ≡ some (openOf code (part s at (sizeOf (rule code))))
+open-as : (s : Octets) (i at code : ℕ) → Ready s i → code ≡ u16 s (placeOf i 1) → at ≡ placeOf i 1 + 2 → (code ≡ 0 → ⊥)
+    → openAt s i ≡ some (openOf code (part s at (sizeOf (rule code))))
 open-as s i at code g ec ea n = rw (ec, ea) (open-read s i g (λ q. n (ec ∙ q)))
 
 -- a report of status 0 where o is under way
 acted-gives : (s : Octets) (i : ℕ) (o : OpenCommand) (u : RadioRule) (d d′ s′ : Octets) (r : Answer) → openAt s i ≡ some o → rule (o .code) ≡ some (radio u)
     → controllerAt (decode s .plain) i ≡ some (controllerOf s i) → (out : Octets)
-    → out ≡ commandComplete i (o .code) 0 (le32 (currentSettings (settingsOf (u .effect (controllerOf s i) (o .params))))) ++ newSettings i (controllerOf s i) (u .effect (controllerOf s i) (o .params))
-    → r ≡ Done (length out) → length out ≤ 23 → 1024 ≤ length d → d′ ≡ writeAt d 0 out
+    → out ≡ commandComplete i (o .code) 0 (le32 (currentSettings (settingsOf (u .effect (controllerOf s i) (o .params))))) ++ newSettings i
+    (controllerOf s i) (u .effect (controllerOf s i) (o .params))
+    → r ≡ Done (length out) → length out ≤ 23 → Lengths.replyBuffer ≤ length d → d′ ≡ writeAt d 0 out
     → s′ ≡ encode (putController (withOpen (decode s) i none) i (u .effect (controllerOf s i) (o .params))) → Gives (reported s i 0) r d d′ s′
 unfolding reported laidOut keep acted answerOf octetsOf stateOf putController withOpen
 acted-gives s i o u d d′ s′ r eq known here out y er short big w k =
@@ -347,14 +358,17 @@ state-of s s₁ s′ i g e new e₁ es ee =
     es ∙ rw (e₁, opened-decoded s i g none fin, opened-controller s i g none fin, ee)
 
 -- what it makes of the settings, in the words of its rule
-makes-is : (code : ℕ) (s : Octets) (at : ℕ) (c : Controller) (old new : Settings) (u : RadioRule) (ps : Octets) → Makes code s at old new → Opens code u → old ≡ settingsOf c → ps ≡ part s at (u .size)
+makes-is : (code : ℕ) (s : Octets) (at : ℕ) (c : Controller) (old new : Settings) (u : RadioRule) (ps : Octets) → Makes code s at old new
+    → Opens code u → old ≡ settingsOf c → ps ≡ part s at (u .size)
     → settingsEffect u (settingsOf c) ps ≡ new
 makes-is code s at c old new u ps all op eo ep = sym (all u op ∙ rw (eo, ep))
 
 -- the command acts
-pub report-acted : (s s₁ s′ d d′ : Octets) (i at code : ℕ) (r : Answer) (old new : Settings) → Ready s i → 1024 ≤ length d → code ≡ u16 s (placeOf i 1) → (code ≡ 0 → ⊥)
+pub report-acted : (s s₁ s′ d d′ : Octets) (i at code : ℕ) (r : Answer) (old new : Settings) → Ready s i → Lengths.replyBuffer ≤ length d
+    → code ≡ u16 s (placeOf i 1) → (code ≡ 0 → ⊥)
     → old ≡ settingsOf (controllerOf s i) → at ≡ placeOf i 1 + 2 → Makes code s at old new → s₁ ≡ encode (withOpen (decode s) i none)
-    → r ≡ Done (length (settingsReply i code (currentSettings old) (currentSettings new))) → d′ ≡ writeAt d 0 (settingsReply i code (currentSettings old) (currentSettings new))
+    → r ≡ Done (length (settingsReply i code (currentSettings old) (currentSettings new)))
+    → d′ ≡ writeAt d 0 (settingsReply i code (currentSettings old) (currentSettings new))
     → s′ ≡ encode (putController (decode s₁) i (withSettings (controllerOf s₁ i) new)) → Gives (reported s i 0) r d d′ s′
 unfolding openOf
 report-acted s s₁ s′ d d′ i at code r old new g big ec n eo ea all e₁ er ed es =
@@ -367,10 +381,11 @@ report-acted s s₁ s′ d d′ i at code r old new g big ec n eo ea all e₁ er
     let d₁ = w .by .effect c (o .params) in
     let es₁ : d₁ ≡ withSettings c new = only .whole ∙ ap (λ (x : Settings). withSettings c x) m in
     let en : settingsOf d₁ ≡ new = only .settings ∙ m in
-    acted-gives s i o (w .by) d d′ s′ r eq (w .known) (present-controller s i g) (settingsReply i code (currentSettings old) (currentSettings new)) (reply-of i code c d₁ old new eo en) er
+    acted-gives s i o (w .by) d d′ s′ r eq (w .known) (present-controller s i g) (settingsReply i code (currentSettings old) (currentSettings new))
+    (reply-of i code c d₁ old new eo en) er
     (settings-short i code (currentSettings old) (currentSettings new)) big ed (state-of s s₁ s′ i g d₁ new e₁ es es₁)
 
 -- the open command of an index lies within the state
-pub open-within : (i at : ℕ) → i < 4 → at ≡ placeOf i 1 → at + 5 ≤ 16116
+pub open-within : (i at : ℕ) → i < 4 → at ≡ placeOf i 1 → at + 5 ≤ Lengths.state
 unfolding placeOf placeAt sizes
 open-within i at l e = omega arith

@@ -15,7 +15,7 @@ use Rattle.model.specs.declared.Answer.{Answer}
 use Rattle.rules.specs.declared.Decision.{Decision}
 use Rattle.rules.specs.Decisions.{decision}
 use Rattle.rules.specs.Effects.{withSettings}
-use Rattle.outcomes.specs.Outcomes.{contended}
+use Rattle.outcomes.specs.Outcomes.{radioCommand}
 
 -- at index i of the state s, the parameters ps have the rule's length, d is what it decides, and it turns the settings `old` into `new`
 pub record Follows (u : RadioRule) (s : Octets) (i : ℕ) (ps : Octets) (d : Decision) (old new : Settings) : Type 0 where
@@ -26,10 +26,11 @@ pub record Follows (u : RadioRule) (s : Octets) (i : ℕ) (ps : Octets) (d : Dec
   pub whole : u .effect (controllerOf s i) ps ≡ withSettings (controllerOf s i) new
 
 -- what the command of any such rule comes to, by the answer r, the reply buffer before and after, and the state that is left
-abbrev pub Concludes : Octets → ℕ → ℕ → Octets → Decision → Settings → Settings → Answer → Octets → Octets → Octets → Type 0
-Concludes s i code ps d old new r reply after left = (u : RadioRule) → Follows u s i ps d old new → Gives (contended s i code ps u) r reply after left
+abbrev pub CarriesOut : Octets → ℕ → ℕ → Octets → Decision → Settings → Settings → Answer → Octets → Octets → Octets → Type 0
+CarriesOut s i code ps d old new r reply after left = (u : RadioRule) → Follows u s i ps d old new → Gives (radioCommand s i code ps u) r reply after left
 
 -- the same past the checks before Busy
-abbrev pub Contends : Octets → ℕ → ℕ → Octets → Decision → Settings → Settings → Answer → Octets → Octets → Octets → Type 0
-Contends s i code ps d old new r reply after left =
-    (u : RadioRule) → Follows u s i ps d old new → firstOf (u .beforeBusy (controllerOf s i .radio) ps) ≡ none → Gives (contended s i code ps u) r reply after left
+abbrev pub UnlessBusy : Octets → ℕ → ℕ → Octets → Decision → Settings → Settings → Answer → Octets → Octets → Octets → Type 0
+UnlessBusy s i code ps d old new r reply after left =
+    (u : RadioRule) → Follows u s i ps d old new → firstOf (u .beforeBusy (controllerOf s i .radio) ps) ≡ none
+    → Gives (radioCommand s i code ps u) r reply after left

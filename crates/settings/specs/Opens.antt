@@ -2,6 +2,7 @@
 -- Assumes nothing.
 use mathlib.Core.Path.{_≡_}
 use Prim.Native.Nat.{ℕ}
+use Rattle.model.specs.Codes as Codes
 use Rattle.model.specs.declared.Settings.{Settings}
 use Rattle.model.specs.Octets.{Octets}
 use Rattle.model.specs.Rules.{RadioRule, setPowered, setDiscoverable, setConnectable, setLowEnergy}
@@ -10,10 +11,10 @@ use Rattle.rules.specs.Effects.{settingsEffect}
 
 -- by code and rule: Set Static Address never waits, and no other command does
 pub data Opens : ℕ → RadioRule → Type 0 where
-  opens-powered : Opens 0x0005 setPowered
-  opens-discoverable : Opens 0x0006 setDiscoverable
-  opens-connectable : Opens 0x0007 setConnectable
-  opens-low-energy : Opens 0x000D setLowEnergy
+  opens-powered : Opens Codes.setPowered setPowered
+  opens-discoverable : Opens Codes.setDiscoverable setDiscoverable
+  opens-connectable : Opens Codes.setConnectable setConnectable
+  opens-low-energy : Opens Codes.setLowEnergy setLowEnergy
 
 -- `new` is what such a command, with its parameters at a place of s, makes of the settings `old`
 abbrev pub Makes : ℕ → Octets → ℕ → Settings → Settings → Type 0

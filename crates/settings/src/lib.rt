@@ -3,6 +3,8 @@ ghost use mathlib.Core.Path.{_≡_};
 ghost use mathlib.Core.Bool.{true};
 ghost use Prim.Native.Nat.{_+_, _<_, _≤_};
 ghost use lib.ListN.{length};
+ghost use Rattle.model.specs.Codes as Codes;
+ghost use Rattle.model.specs.Lengths as Lengths;
 ghost use Rattle.model.specs.Octets.{u16};
 ghost use Rattle.model.specs.State.{currentSettings};
 ghost use Rattle.model.specs.Rules.{setConnectable, setDiscoverable, setLowEnergy, setPowered, setStaticAddress};
@@ -16,11 +18,13 @@ ghost use Rattle.replies.specs.Frames.{settingsReply};
 ghost use Rattle.model.specs.declared.Answer.the-variants.{Done};
 ghost use Rattle.rules.specs.declared.Decision.the-variants.{Wait};
 ghost use Rattle.rules.specs.Effects.{withSettings};
-ghost use Rattle.outcomes.specs.Outcomes.{contended, reported, served};
-ghost use Rattle.settings.specs.Follows.{Concludes, Contends};
+ghost use Rattle.outcomes.specs.Outcomes.{radioCommand, reported, immediateCommand};
+ghost use Rattle.settings.specs.Follows.{CarriesOut, UnlessBusy};
 ghost use Rattle.settings.specs.Opens.{Makes};
 use model::Answer;
 use model::Settings;
+use model::codes;
+use model::statuses;
 use rules::Decision;
 
 // The ways to end
@@ -35,7 +39,11 @@ fn apply(
     new: Settings,
 ) -> Answer
     requires { ⌜ Ready (now state) index × (23 ≤ length (now reply)) ⌝ }
-    ensures { λ r. ⌜ (r ≡ Done (length (settingsReply index code (currentSettings old) (currentSettings new)))) × (now (reply .exit) ≡ writeAt (now (reply .entry)) 0 (settingsReply index code (currentSettings old) (currentSettings new))) × (now (state .exit) ≡ encode (putController (decode (now (state .entry))) index (withSettings (controllerOf (now (state .entry)) index) new))) ⌝ }
+    ensures { λ r. ⌜
+        (r ≡ Done (length (settingsReply index code (currentSettings old) (currentSettings new))))
+        × (now (reply .exit) ≡ writeAt (now (reply .entry)) 0 (settingsReply index code (currentSettings old) (currentSettings new)))
+        × (now (state .exit) ≡ encode (putController (decode (now (state .entry))) index (withSettings (controllerOf (now (state .entry)) index) new)))
+        ⌝ }
 {
     let before = rules::current_settings(old);
     let after = rules::current_settings(new);
@@ -48,25 +56,38 @@ fn apply(
 
 // 0x0009 Set Bondable: it waits for no radio.
 pub fn set_bondable(state: &mut [u8], index: u64, ps: &[u8], reply: &mut [u8]) -> Answer
-    requires { ⌜ Ready (now state) index × (1024 ≤ length (now reply)) ⌝ }
-    ensures { λ r. ⌜ Gives (served (now (state .entry)) index 0x0009 (now (ps .entry)) setBondable) r (now (reply .entry)) (now (reply .exit)) (now (state .exit)) ⌝ }
+    requires { ⌜ Ready (now state) index × (Lengths.replyBuffer ≤ length (now reply)) ⌝ }
+    ensures { λ r. ⌜
+        Gives (immediateCommand (now (state .entry)) index Codes.setBondable (now (ps .entry)) setBondable) r (now (reply .entry)) (now (reply .exit))
+        (now (state .exit))
+        ⌝ }
 {
     if ps.len() != 1 {
-        return replies::refuse(reply, index, 0x0009, 0x0D);
+        return replies::refuse(
+            reply,
+            index,
+            codes::SET_BONDABLE,
+            statuses::INVALID_PARAMETERS,
+        );
     }
     let v = ps[0];
     if 1 < v {
-        return replies::refuse(reply, index, 0x0009, 0x0D);
+        return replies::refuse(
+            reply,
+            index,
+            codes::SET_BONDABLE,
+            statuses::INVALID_PARAMETERS,
+        );
     }
     let old = layout::settings_at(state, index);
     let new = rules::with_bondable(old, v == 1);
-    apply(state, index, 0x0009, reply, old, new)
+    apply(state, index, codes::SET_BONDABLE, reply, old, new)
 }
 
 // The commands that can be Busy
 
 // A settings command past the checks before Busy: Busy, Rejected, started, or done at once.
-fn contend(
+fn unless_busy(
     state: &mut [u8],
     index: u64,
     code: u64,
@@ -76,11 +97,11 @@ fn contend(
     old: Settings,
     new: Settings,
 ) -> Answer
-    requires { ⌜ Ready (now state) index × (1024 ≤ length (now reply)) × (0 < code) × (code < 65536) × (d ≡ Wait → length (now ps) ≤ 3) ⌝ }
-    ensures { λ r. ⌜ Contends (now (state .entry)) index code (now (ps .entry)) d old new r (now (reply .entry)) (now (reply .exit)) (now (state .exit)) ⌝ }
+    requires { ⌜ Ready (now state) index × (Lengths.replyBuffer ≤ length (now reply)) × (0 < code) × (code < 65536) × (d ≡ Wait → length (now ps) ≤ 3) ⌝ }
+    ensures { λ r. ⌜ UnlessBusy (now (state .entry)) index code (now (ps .entry)) d old new r (now (reply .entry)) (now (reply .exit)) (now (state .exit)) ⌝ }
 {
     if layout::open_code(state, index) != 0 {
-        return replies::refuse(reply, index, code, 0x0A);
+        return replies::refuse(reply, index, code, statuses::BUSY);
     }
     match d {
         Decision::Refuse(status) => replies::refuse(reply, index, code, status),
@@ -94,7 +115,7 @@ fn contend(
 }
 
 // The end that the five share, once their length is right: refused before Busy, or as above.
-fn conclude(
+fn carry_out(
     state: &mut [u8],
     index: u64,
     code: u64,
@@ -104,85 +125,143 @@ fn conclude(
     old: Settings,
     new: Settings,
 ) -> Answer
-    requires { ⌜ Ready (now state) index × (1024 ≤ length (now reply)) × (0 < code) × (code < 65536) × (d ≡ Wait → length (now ps) ≤ 3) ⌝ }
-    ensures { λ r. ⌜ Concludes (now (state .entry)) index code (now (ps .entry)) d old new r (now (reply .entry)) (now (reply .exit)) (now (state .exit)) ⌝ }
+    requires { ⌜ Ready (now state) index × (Lengths.replyBuffer ≤ length (now reply)) × (0 < code) × (code < 65536) × (d ≡ Wait → length (now ps) ≤ 3) ⌝ }
+    ensures { λ r. ⌜ CarriesOut (now (state .entry)) index code (now (ps .entry)) d old new r (now (reply .entry)) (now (reply .exit)) (now (state .exit)) ⌝ }
 {
     match d {
         Decision::Refuse(status) => replies::refuse(reply, index, code, status),
-        Decision::Reject(_) => contend(state, index, code, ps, reply, d, old, new),
-        Decision::Wait => contend(state, index, code, ps, reply, d, old, new),
-        Decision::Act => contend(state, index, code, ps, reply, d, old, new),
+        Decision::Reject(_) => unless_busy(state, index, code, ps, reply, d, old, new),
+        Decision::Wait => unless_busy(state, index, code, ps, reply, d, old, new),
+        Decision::Act => unless_busy(state, index, code, ps, reply, d, old, new),
     }
 }
 
 // 0x0005 Set Powered.
 pub fn set_powered(state: &mut [u8], index: u64, ps: &[u8], reply: &mut [u8]) -> Answer
-    requires { ⌜ Ready (now state) index × (1024 ≤ length (now reply)) ⌝ }
-    ensures { λ r. ⌜ Gives (contended (now (state .entry)) index 0x0005 (now (ps .entry)) setPowered) r (now (reply .entry)) (now (reply .exit)) (now (state .exit)) ⌝ }
+    requires { ⌜ Ready (now state) index × (Lengths.replyBuffer ≤ length (now reply)) ⌝ }
+    ensures { λ r. ⌜
+        Gives (radioCommand (now (state .entry)) index Codes.setPowered (now (ps .entry)) setPowered) r (now (reply .entry)) (now (reply .exit))
+        (now (state .exit))
+        ⌝ }
 {
     if ps.len() != 1 {
-        return replies::refuse(reply, index, 0x0005, 0x0D);
+        return replies::refuse(
+            reply,
+            index,
+            codes::SET_POWERED,
+            statuses::INVALID_PARAMETERS,
+        );
     }
     let old = layout::settings_at(state, index);
     let d = rules::decide_powered(old.radio, ps);
     let new = rules::effect_powered(old, ps);
-    conclude(state, index, 0x0005, ps, reply, d, old, new)
+    carry_out(state, index, codes::SET_POWERED, ps, reply, d, old, new)
 }
 
 // 0x0006 Set Discoverable.
 pub fn set_discoverable(state: &mut [u8], index: u64, ps: &[u8], reply: &mut [u8]) -> Answer
-    requires { ⌜ Ready (now state) index × (1024 ≤ length (now reply)) ⌝ }
-    ensures { λ r. ⌜ Gives (contended (now (state .entry)) index 0x0006 (now (ps .entry)) setDiscoverable) r (now (reply .entry)) (now (reply .exit)) (now (state .exit)) ⌝ }
+    requires { ⌜ Ready (now state) index × (Lengths.replyBuffer ≤ length (now reply)) ⌝ }
+    ensures { λ r. ⌜
+        Gives (radioCommand (now (state .entry)) index Codes.setDiscoverable (now (ps .entry)) setDiscoverable) r (now (reply .entry))
+        (now (reply .exit)) (now (state .exit))
+        ⌝ }
 {
     if ps.len() != 3 {
-        return replies::refuse(reply, index, 0x0006, 0x0D);
+        return replies::refuse(
+            reply,
+            index,
+            codes::SET_DISCOVERABLE,
+            statuses::INVALID_PARAMETERS,
+        );
     }
     let old = layout::settings_at(state, index);
     let d = rules::decide_discoverable(old.radio, ps);
     let new = rules::effect_discoverable(old, ps);
-    conclude(state, index, 0x0006, ps, reply, d, old, new)
+    carry_out(
+        state,
+        index,
+        codes::SET_DISCOVERABLE,
+        ps,
+        reply,
+        d,
+        old,
+        new,
+    )
 }
 
 // 0x0007 Set Connectable.
 pub fn set_connectable(state: &mut [u8], index: u64, ps: &[u8], reply: &mut [u8]) -> Answer
-    requires { ⌜ Ready (now state) index × (1024 ≤ length (now reply)) ⌝ }
-    ensures { λ r. ⌜ Gives (contended (now (state .entry)) index 0x0007 (now (ps .entry)) setConnectable) r (now (reply .entry)) (now (reply .exit)) (now (state .exit)) ⌝ }
+    requires { ⌜ Ready (now state) index × (Lengths.replyBuffer ≤ length (now reply)) ⌝ }
+    ensures { λ r. ⌜
+        Gives (radioCommand (now (state .entry)) index Codes.setConnectable (now (ps .entry)) setConnectable) r (now (reply .entry))
+        (now (reply .exit)) (now (state .exit))
+        ⌝ }
 {
     if ps.len() != 1 {
-        return replies::refuse(reply, index, 0x0007, 0x0D);
+        return replies::refuse(
+            reply,
+            index,
+            codes::SET_CONNECTABLE,
+            statuses::INVALID_PARAMETERS,
+        );
     }
     let old = layout::settings_at(state, index);
     let d = rules::decide_connectable(old.radio, ps);
     let new = rules::effect_connectable(old, ps);
-    conclude(state, index, 0x0007, ps, reply, d, old, new)
+    carry_out(state, index, codes::SET_CONNECTABLE, ps, reply, d, old, new)
 }
 
 // 0x000D Set Low Energy.
 pub fn set_low_energy(state: &mut [u8], index: u64, ps: &[u8], reply: &mut [u8]) -> Answer
-    requires { ⌜ Ready (now state) index × (1024 ≤ length (now reply)) ⌝ }
-    ensures { λ r. ⌜ Gives (contended (now (state .entry)) index 0x000D (now (ps .entry)) setLowEnergy) r (now (reply .entry)) (now (reply .exit)) (now (state .exit)) ⌝ }
+    requires { ⌜ Ready (now state) index × (Lengths.replyBuffer ≤ length (now reply)) ⌝ }
+    ensures { λ r. ⌜
+        Gives (radioCommand (now (state .entry)) index Codes.setLowEnergy (now (ps .entry)) setLowEnergy) r (now (reply .entry)) (now (reply .exit))
+        (now (state .exit))
+        ⌝ }
 {
     if ps.len() != 1 {
-        return replies::refuse(reply, index, 0x000D, 0x0D);
+        return replies::refuse(
+            reply,
+            index,
+            codes::SET_LOW_ENERGY,
+            statuses::INVALID_PARAMETERS,
+        );
     }
     let old = layout::settings_at(state, index);
     let d = rules::decide_low_energy(old.radio, ps);
     let new = rules::effect_low_energy(old, ps);
-    conclude(state, index, 0x000D, ps, reply, d, old, new)
+    carry_out(state, index, codes::SET_LOW_ENERGY, ps, reply, d, old, new)
 }
 
 // 0x002B Set Static Address.
 pub fn set_static_address(state: &mut [u8], index: u64, ps: &[u8], reply: &mut [u8]) -> Answer
-    requires { ⌜ Ready (now state) index × (1024 ≤ length (now reply)) ⌝ }
-    ensures { λ r. ⌜ Gives (contended (now (state .entry)) index 0x002B (now (ps .entry)) setStaticAddress) r (now (reply .entry)) (now (reply .exit)) (now (state .exit)) ⌝ }
+    requires { ⌜ Ready (now state) index × (Lengths.replyBuffer ≤ length (now reply)) ⌝ }
+    ensures { λ r. ⌜
+        Gives (radioCommand (now (state .entry)) index Codes.setStaticAddress (now (ps .entry)) setStaticAddress) r (now (reply .entry))
+        (now (reply .exit)) (now (state .exit))
+        ⌝ }
 {
     if ps.len() != 6 {
-        return replies::refuse(reply, index, 0x002B, 0x0D);
+        return replies::refuse(
+            reply,
+            index,
+            codes::SET_STATIC_ADDRESS,
+            statuses::INVALID_PARAMETERS,
+        );
     }
     let old = layout::settings_at(state, index);
     let d = rules::decide_static_address(old.radio, ps);
     let new = rules::effect_static_address(old, ps);
-    conclude(state, index, 0x002B, ps, reply, d, old, new)
+    carry_out(
+        state,
+        index,
+        codes::SET_STATIC_ADDRESS,
+        ps,
+        reply,
+        d,
+        old,
+        new,
+    )
 }
 
 // The report
@@ -192,13 +271,13 @@ fn acted_settings(state: &[u8], at: usize, code: u64, old: Settings) -> Settings
     requires { ⌜ at + 3 ≤ length (now state) ⌝ }
     ensures { λ new. ⌜ Makes code (now (state .entry)) at old new ⌝ }
 {
-    if code == 0x0005 {
+    if code == codes::SET_POWERED {
         return rules::effect_powered(old, &state[at..at + 1]);
     }
-    if code == 0x0006 {
+    if code == codes::SET_DISCOVERABLE {
         return rules::effect_discoverable(old, &state[at..at + 3]);
     }
-    if code == 0x0007 {
+    if code == codes::SET_CONNECTABLE {
         return rules::effect_connectable(old, &state[at..at + 1]);
     }
     rules::effect_low_energy(old, &state[at..at + 1])
@@ -206,7 +285,7 @@ fn acted_settings(state: &[u8], at: usize, code: u64, old: Settings) -> Settings
 
 // The command under way acts, on the settings as they are now, and is under way no more.
 fn finish(state: &mut [u8], index: u64, code: u64, reply: &mut [u8]) -> Answer
-    requires { ⌜ Ready (now state) index × (1024 ≤ length (now reply)) × (code ≡ u16 (now state) (placeOf index 1)) × (code ≡ 0 → ⊥) ⌝ }
+    requires { ⌜ Ready (now state) index × (Lengths.replyBuffer ≤ length (now reply)) × (code ≡ u16 (now state) (placeOf index 1)) × (code ≡ 0 → ⊥) ⌝ }
     ensures { λ r. ⌜ Gives (reported (now (state .entry)) index 0) r (now (reply .entry)) (now (reply .exit)) (now (state .exit)) ⌝ }
 {
     let old = layout::settings_at(state, index);
@@ -218,7 +297,7 @@ fn finish(state: &mut [u8], index: u64, code: u64, reply: &mut [u8]) -> Answer
 
 // The radio reports on the command under way at index: status 0, it acts; 0x01 to 0x14, it failed.
 pub fn report(state: &mut [u8], index: u64, status: u64, reply: &mut [u8]) -> Answer
-    requires { ⌜ (stateOk (now state) ≡ true) × (length (now state) ≡ 16116) × (1024 ≤ length (now reply)) ⌝ }
+    requires { ⌜ (stateOk (now state) ≡ true) × (length (now state) ≡ Lengths.state) × (Lengths.replyBuffer ≤ length (now reply)) ⌝ }
     ensures { λ r. ⌜ Gives (reported (now (state .entry)) index status) r (now (reply .entry)) (now (reply .exit)) (now (state .exit)) ⌝ }
 {
     if layout::present(state, index) {
@@ -226,7 +305,7 @@ pub fn report(state: &mut [u8], index: u64, status: u64, reply: &mut [u8]) -> An
         if code == 0 {
             return Answer::BadArgument;
         }
-        if 0x14 < status {
+        if statuses::HIGHEST < status {
             return Answer::BadArgument;
         }
         if status == 0 {

@@ -22,7 +22,8 @@ use Rattle.model.specs.Proof.Region.{Sized}
 use Rattle.octets.specs.Parts.{part, writeAt, getD-part, length-writeAt}
 use Rattle.table.specs.Slots.{Canonical, InUse, NextUsed, firstAt, joinedByOr, tableAt}
 use Rattle.table.proofs.Slots.{freed-first, freed-none, entries-first, sized-none}
-use Rattle.table.proofs.Regions.{free-at, store-changed, release-changed, load-changed, length-table, length-region, canonical-write, sized-at, table-write, write-over, write-part}
+use Rattle.table.proofs.Regions.{free-at, store-changed, release-changed, load-changed, length-table, length-region, canonical-write}
+use Rattle.table.proofs.Regions.{sized-at, table-write, write-over, write-part}
 use Rattle.table.proofs.Walk.{next-some, next-none, next-first, next-entries, in-use-entries}
 
 -- places ------------------------------------------------------------------------------------------------------------------------------------------
@@ -65,7 +66,8 @@ free-full s at size w e l f =
 -- writes ------------------------------------------------------------------------------------------------------------------------------------------
 
 -- the record over slot k and its bit joined into the word: the table with the record in that slot
-pub store-done : (s a b : Octets) (at size k : ℕ) (x : Octets) (w : ℕ) → at + (4 + size * 32) ≤ length s → Canonical s at size → k < 32 → length x ≡ size → w ≡ u32 s at → w < 4294967296
+pub store-done : (s a b : Octets) (at size k : ℕ) (x : Octets) (w : ℕ) → at + (4 + size * 32) ≤ length s → Canonical s at size → k < 32
+    → length x ≡ size → w ≡ u32 s at → w < 4294967296
     → a ≡ writeAt s (at + (4 + size * k)) x → b ≡ writeAt a at (le32 (bitOr w (1 * 2 ^ k % 4294967296)))
     → b ≡ writeAt s at (region size (set (tableAt s at size) k (some x)))
 store-done s a b at size k x w h c l n e u p q =
@@ -84,11 +86,13 @@ release-done s a b at size k w h c l e u p q =
 
 -- n ones as the word, the records of a list, zeros behind them: the list loaded
 pub load-done : (s a b d : Octets) (at size : ℕ) (src : Octets) (from n : ℕ) → n ≤ 32 → from + size * n ≤ length src
-    → a ≡ writeAt s at (le32 (1 * 2 ^ n % 18446744073709551616 - 1)) → b ≡ writeAt a (at + 4) (part src from (size * n)) → d ≡ writeAt b (at + (4 + size * n)) (replicate (size * (32 - n)) 0)
+    → a ≡ writeAt s at (le32 (1 * 2 ^ n % 18446744073709551616 - 1)) → b ≡ writeAt a (at + 4) (part src from (size * n))
+    → d ≡ writeAt b (at + (4 + size * n)) (replicate (size * (32 - n)) 0)
     → d ≡ writeAt s at (region size (loaded (chop size n (drop from src))))
 load-done s a b d at size src from n h l p q r =
     let f : 1 * 2 ^ n % 18446744073709551616 ≡ 2 ^ n = one-shl64 n h in
-    let g : d ≡ writeAt (writeAt (writeAt s at (le32 (2 ^ n - 1))) (at + 4) (part src from (size * n))) (at + (4 + size * n)) (replicate (size * (32 - n)) 0) = rw (← f, ← p, ← q) r in
+    let g : d ≡ writeAt (writeAt (writeAt s at (le32 (2 ^ n - 1))) (at + 4) (part src from (size * n))) (at + (4 + size * n))
+    (replicate (size * (32 - n)) 0) = rw (← f, ← p, ← q) r in
     g ∙ load-changed s at size src from n h l
 
 -- a walk ------------------------------------------------------------------------------------------------------------------------------------------
@@ -98,7 +102,8 @@ pub next-some-at : (s : Octets) (at k w : ℕ) → k ≤ 32 → w ≡ u32 s at �
     → ((size : ℕ) → NextUsed s at size k (k + trailingZeros 64 (w / 2 ^ k))) × (k ≤ k + trailingZeros 64 (w / 2 ^ k)) × (k + trailingZeros 64 (w / 2 ^ k) ≤ 32)
 next-some-at s at k w h e l n =
     let p : 0 < u32 s at / 2 ^ k = rw e at (positive (w / 2 ^ k) n) in
-    let q : (size : ℕ) → (k + trailingZeros 64 (u32 s at / 2 ^ k) < 32) × NextUsed s at size k (k + trailingZeros 64 (u32 s at / 2 ^ k)) = λ size. next-some s at size k h (rw e at l) p in
+    let q : (size : ℕ) → (k + trailingZeros 64 (u32 s at / 2 ^ k) < 32)
+    × NextUsed s at size k (k + trailingZeros 64 (u32 s at / 2 ^ k)) = λ size. next-some s at size k h (rw e at l) p in
     rw e (λ size. q size .1, omega arith, omega (arith, q 0 .0))
   where
     positive : (v : ℕ) → (v ≡ 0 → ⊥) → 0 < v
@@ -141,13 +146,15 @@ module _ (s key : Octets) (at size n : ℕ) where
   left-first r u = let e = next-first s at size 0 r u (begins n key) in omega arith
 
   -- a record that begins with the key: it is the first match
-  pub left-hit : (k : ℕ) → n ≤ size → InUse s at size k → same (part key 0 n) (part s (at + (4 + size * k)) n) ≡ true → Left k → k ≡ firstAt (begins n key) (tableAt s at size)
+  pub left-hit : (k : ℕ) → n ≤ size → InUse s at size k → same (part key 0 n) (part s (at + (4 + size * k)) n) ≡ true → Left k
+      → k ≡ firstAt (begins n key) (tableAt s at size)
   left-hit k l u h e =
       let f : firstAt (begins n key) (drop k (tableAt s at size)) ≡ 0 = rw h at (here k l u) in
       omega arith
 
   -- one that does not: the search goes on at the next slot in use
-  pub left-miss : (k r : ℕ) → n ≤ size → InUse s at size k → same (part key 0 n) (part s (at + (4 + size * k)) n) ≡ false → NextUsed s at size (k + 1) r → k + 1 ≤ r → Left k → Left r
+  pub left-miss : (k r : ℕ) → n ≤ size → InUse s at size k → same (part key 0 n) (part s (at + (4 + size * k)) n) ≡ false
+      → NextUsed s at size (k + 1) r → k + 1 ≤ r → Left k → Left r
   left-miss k r l u h v g e =
       let f : firstAt (begins n key) (drop k (tableAt s at size)) ≡ suc (firstAt (begins n key) (drop (k + 1) (tableAt s at size))) = rw h at (here k l u) in
       let d = next-first s at size (k + 1) r v (begins n key) in
@@ -179,8 +186,10 @@ or-assoc a = bin-ind (λ (n : ℕ). (b c : ℕ) → bitOr (bitOr n b) c ≡ bitO
   where
     step : (n : ℕ) → ((b c : ℕ) → bitOr (bitOr (n / 2) b) c ≡ bitOr (n / 2) (bitOr b c)) → (b c : ℕ) → bitOr (bitOr n b) c ≡ bitOr n (bitOr b c)
     step n ih b c =
-        let x : bitOr (bitOr n b) c ≡ bitOr (bitOr (n / 2) (b / 2)) (c / 2) * 2 + max (max (n % 2) (b % 2)) (c % 2) = or-step (bitOr n b) c ∙ rw (or-half n b, or-odd n b) in
-        let y : bitOr n (bitOr b c) ≡ bitOr (n / 2) (bitOr (b / 2) (c / 2)) * 2 + max (n % 2) (max (b % 2) (c % 2)) = or-step n (bitOr b c) ∙ rw (or-half b c, or-odd b c) in
+        let x : bitOr (bitOr n b) c ≡ bitOr (bitOr (n / 2) (b / 2)) (c / 2) * 2 + max (max (n % 2) (b % 2)) (c % 2) = or-step (bitOr n b) c
+        ∙ rw (or-half n b, or-odd n b) in
+        let y : bitOr n (bitOr b c) ≡ bitOr (n / 2) (bitOr (b / 2) (c / 2)) * 2 + max (n % 2) (max (b % 2) (c % 2)) = or-step n (bitOr b c)
+        ∙ rw (or-half b c, or-odd b c) in
         let z : bitOr (bitOr (n / 2) (b / 2)) (c / 2) ≡ bitOr (n / 2) (bitOr (b / 2) (c / 2)) = ih (b / 2) (c / 2) in
         x ∙ rw z (max-last (bitOr (n / 2) (bitOr (b / 2) (c / 2)) * 2) (n % 2) (b % 2) (c % 2)) ∙ sym y
 
@@ -194,12 +203,14 @@ module _ (s : Octets) (at size place : ℕ) where
   joined-first r u = rw (← next-entries s at size 0 r u)
 
   -- the record's octet is joined in, and the walk goes on at the next slot in use
-  pub joined-turn : (hints k r : ℕ) → place < size → InUse s at size k → NextUsed s at size (k + 1) r → Joined hints k → Joined (bitOr hints (getD s (at + (4 + size * k) + place) 0)) r
+  pub joined-turn : (hints k r : ℕ) → place < size → InUse s at size k → NextUsed s at size (k + 1) r → Joined hints k
+      → Joined (bitOr hints (getD s (at + (4 + size * k) + place) 0)) r
   unfolding octet
   joined-turn hints k r l u v e =
       let p : ℕ = at + (4 + size * k) in
       let o : getD (part s p size) place 0 ≡ getD s (p + place) 0 = getD-part s p size place l in
-      let f : entries (drop k (tableAt s at size)) ≡ part s p size ∷ entries (drop r (tableAt s at size)) = in-use-entries s at size k u ∙ rw (next-entries s at size (k + 1) r v) in
+      let f : entries (drop k (tableAt s at size)) ≡ part s p size ∷ entries (drop r (tableAt s at size)) = in-use-entries s at size k u
+      ∙ rw (next-entries s at size (k + 1) r v) in
       or-assoc hints (getD s (p + place) 0) (joinedByOr place (entries (drop r (tableAt s at size)))) ∙ rw (← o) (rw f at e)
 
   -- past the last slot: all are joined
@@ -253,9 +264,11 @@ module _ (m : Octets → Bool) (s₀ s d : Octets) (at size k : ℕ)
     freeing-turn =
         let n = length-region size (tableAt s at size) (sized-at s at size inside) (length-table s at size) in
         let l = length-region size (set (tableAt s at size) k none) sized slots in
-        let o : writeAt (writeAt s₀ at (region size (tableAt s at size))) at (region size (set (tableAt s at size) k none)) ≡ writeAt s₀ at (region size (set (tableAt s at size) k none)) =
+        let o : writeAt (writeAt s₀ at (region size (tableAt s at size))) at (region size (set (tableAt s at size) k none)) ≡ writeAt s₀ at
+        (region size (set (tableAt s at size) k none)) =
         write-over s₀ at (region size (tableAt s at size)) (region size (set (tableAt s at size) k none)) (rw n room) (l ∙ sym n) in
-        let e : writeAt s at (region size (set (tableAt s at size) k none)) ≡ writeAt s₀ at (region size (set (tableAt s at size) k none)) = ap (λ (x : Octets). writeAt x at (region size (set (tableAt s at size) k none))) (freeing .now) ∙ o in
+        let e : writeAt s at (region size (set (tableAt s at size) k none)) ≡ writeAt s₀ at (region size (set (tableAt s at size) k none)) = ap
+        (λ (x : Octets). writeAt x at (region size (set (tableAt s at size) k none))) (freeing .now) ∙ o in
         record {
           long = ap length written ∙ length-writeAt s at (region size (set (tableAt s at size) k none)) ∙ freeing .long;
           canonical = rw written (canonical-write s at size (set (tableAt s at size) k none) inside sized slots);

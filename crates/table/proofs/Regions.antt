@@ -48,12 +48,14 @@ write-part s at n h =
     write-at s at (take n (drop at s)) (rw e h) ∙ rw (e, f, take-append-drop n (drop at s)) (take-append-drop at s)
 
 -- a write inside what was written
-pub write-in : (s : Octets) (at : ℕ) (x : Octets) (a : ℕ) (w : Octets) → at + length x ≤ length s → a + length w ≤ length x → writeAt (writeAt s at x) (at + a) w ≡ writeAt s at (writeAt x a w)
+pub write-in : (s : Octets) (at : ℕ) (x : Octets) (a : ℕ) (w : Octets) → at + length x ≤ length s → a + length w ≤ length x
+    → writeAt (writeAt s at x) (at + a) w ≡ writeAt s at (writeAt x a w)
 write-in s at x a w h l =
     let n : length (take at s) ≡ at = length-take-le at s (omega arith) in
     let m : length (writeAt x a w) ≡ length x = length-writeAt x a w in
     let r : Octets = drop (at + length x) s in
-    let e : writeAt (take at s ++ (x ++ r)) (length (take at s) + a) w ≡ take at s ++ (writeAt x a w ++ r) = write-right (take at s) (x ++ r) a w ∙ rw (write-left x r a w l) in
+    let e : writeAt (take at s ++ (x ++ r)) (length (take at s) + a) w ≡ take at s ++ (writeAt x a w ++ r) = write-right (take at s) (x ++ r) a w
+    ∙ rw (write-left x r a w l) in
     let f : writeAt (writeAt s at x) (at + a) w ≡ take at s ++ (writeAt x a w ++ r) = rw (write-at s at x h) (rw n at e) in
     let g : writeAt s at (writeAt x a w) ≡ take at s ++ (writeAt x a w ++ r) = write-at s at (writeAt x a w) (rw m h) ∙ rw m in
     f ∙ sym g
@@ -96,12 +98,14 @@ pub occupancy-some : (t : Table) (k : ℕ) (x : Octets) → k < length t → occ
 unfolding slotBit
 occupancy-some [] k x l = absurd (omega arith)
 occupancy-some (y ∷ t) zero x l =
-    rw (occupancy-cons (some x) t, occupancy-cons y t) (sym (or-step (occupancy t * 2 + slotBit y) 1 ∙ rw (word-half y (occupancy t), word-odd y (occupancy t), or-zero-r) (omega (arith, slotBit-lt y))))
+    rw (occupancy-cons (some x) t, occupancy-cons y t)
+    (sym (or-step (occupancy t * 2 + slotBit y) 1 ∙ rw (word-half y (occupancy t), word-odd y (occupancy t), or-zero-r) (omega (arith, slotBit-lt y))))
 occupancy-some (y ∷ t) (suc k) x l =
     let e : 2 ^ k * 2 / 2 ≡ 2 ^ k = omega arith in
     let f : 2 ^ k * 2 % 2 ≡ 0 = omega arith in
     rw (occupancy-cons y (set t k (some x)), occupancy-cons y t)
-    (sym (or-step (occupancy t * 2 + slotBit y) (2 ^ suc k) ∙ rw (pow-suc, word-half y (occupancy t), word-odd y (occupancy t), e, f, ← occupancy-some t k x (omega arith)) (omega (arith, slotBit-lt y))))
+    (sym (or-step (occupancy t * 2 + slotBit y) (2 ^ suc k)
+    ∙ rw (pow-suc, word-half y (occupancy t), word-odd y (occupancy t), e, f, ← occupancy-some t k x (omega arith)) (omega (arith, slotBit-lt y))))
 
 -- a slot is freed: its bit is masked out
 pub occupancy-none : (t : Table) (k : ℕ) → k < length t → occupancy (set t k none) ≡ bitAnd (occupancy t) (2 ^ length t - 1 - 2 ^ k)
@@ -114,7 +118,8 @@ occupancy-none (y ∷ t) zero l =
     let f : (2 ^ n * 2 - 1 - 1) % 2 ≡ 0 = omega arith in
     let m : occupancy t % 2 ^ n ≡ occupancy t = mod-eq-of-lt (occupancy-lt t) in
     rw (occupancy-cons none t, occupancy-cons y t)
-    (sym (and-step (occupancy t * 2 + slotBit y) (2 ^ suc n - 1 - 1) ∙ rw (pow-suc, word-half y (occupancy t), word-odd y (occupancy t), e, f, and-mask (occupancy t) n, m) (omega arith)))
+    (sym (and-step (occupancy t * 2 + slotBit y) (2 ^ suc n - 1 - 1)
+    ∙ rw (pow-suc, word-half y (occupancy t), word-odd y (occupancy t), e, f, and-mask (occupancy t) n, m) (omega arith)))
 occupancy-none (y ∷ t) (suc k) l =
     let n : ℕ = length t in
     let l′ : k < n = omega arith in
@@ -122,7 +127,8 @@ occupancy-none (y ∷ t) (suc k) l =
     let e : (2 ^ n * 2 - 1 - 2 ^ k * 2) / 2 ≡ 2 ^ n - 1 - 2 ^ k = omega arith in
     let f : (2 ^ n * 2 - 1 - 2 ^ k * 2) % 2 ≡ 1 = omega arith in
     rw (occupancy-cons y (set t k none), occupancy-cons y t)
-    (sym (and-step (occupancy t * 2 + slotBit y) (2 ^ suc n - 1 - 2 ^ suc k) ∙ rw (pow-suc 2 n, pow-suc 2 k, word-half y (occupancy t), word-odd y (occupancy t), e, f, ← occupancy-none t k l′) (omega (arith, slotBit-lt y))))
+    (sym (and-step (occupancy t * 2 + slotBit y) (2 ^ suc n - 1 - 2 ^ suc k)
+    ∙ rw (pow-suc 2 n, pow-suc 2 k, word-half y (occupancy t), word-odd y (occupancy t), e, f, ← occupancy-none t k l′) (omega (arith, slotBit-lt y))))
 
 -- where no slot is in use the word is zero
 pub occupancy-nones : (n : ℕ) → occupancy (replicate n none) ≡ 0
@@ -157,7 +163,8 @@ word-back w (r ∷ rs) h =
     let k : w < 2 ^ length rs * 2 = rw pow-suc at h in
     go (eqb (w % 2) 1) refl (word-back (w / 2) rs (omega arith))
   where
-    go : (b : Bool) → eqb (w % 2) 1 ≡ b → occupancy (slotsBack (w / 2) rs) ≡ w / 2 → occupancy (elim b [ true ↦ some r | false ↦ none ] ∷ slotsBack (w / 2) rs) ≡ w
+    go : (b : Bool) → eqb (w % 2) 1 ≡ b → occupancy (slotsBack (w / 2) rs) ≡ w / 2
+        → occupancy (elim b [ true ↦ some r | false ↦ none ] ∷ slotsBack (w / 2) rs) ≡ w
     go true e ih = let q : w % 2 ≡ 1 = equal _ _ e in rw ih (omega arith)
     go false e ih = let q = eqb-false (w % 2) 1 e in let q2 : w % 2 ≡ 0 = zero-or (w % 2) (omega arith) q in rw ih (omega arith)
 
@@ -185,7 +192,8 @@ unfolding tableFrom slotsBack chop part
 from-step s size w place m = rw (drop-drop size place s)
 
 -- a slot whose bit is set holds the record at its place
-pub from-used : (s : Octets) (size w place m : ℕ) → w % 2 ≡ 1 → tableFrom s size w place (suc m) ≡ some (part s place size) ∷ tableFrom s size (w / 2) (place + size) m
+pub from-used : (s : Octets) (size w place m : ℕ) → w % 2 ≡ 1 → tableFrom s size w place (suc m) ≡ some (part s place size)
+    ∷ tableFrom s size (w / 2) (place + size) m
 from-used s size w place m e = let q : eqb (w % 2) 1 ≡ true = eq-eqb (w % 2) 1 e in rw q at (from-step s size w place m)
 
 -- a slot whose bit is not set is free
@@ -229,8 +237,11 @@ sized-from s size w place zero h = rw (from-end s size w place) tt
 sized-from s size w place (suc n) h =
     let l : place + size + size * n ≤ length s = omega (arith, mul-suc size n) in
     let e : length (part s place size) ≡ size = length-part s place size (omega arith) in
-    rw (from-step s size w place n)
-    (either {A = Option Octets} (λ y. length (slotOctets size y) ≡ size) (eqb (w % 2) 1) (λ q. e) (λ q. length-replicate size 0), sized-from s size (w / 2) (place + size) n l)
+    rw (from-step s size w place n) (
+      either {A = Option Octets} (λ y. length (slotOctets size y) ≡ size) (eqb (w % 2) 1) (λ q. e) (λ q. length-replicate size 0),
+      sized-from s size
+          (w / 2) (place + size) n l,
+    )
 
 -- so have those of a table that lies within the octets
 pub sized-at : (s : Octets) (at size : ℕ) → at + (4 + size * 32) ≤ length s → Sized size (tableAt s at size)
@@ -293,23 +304,27 @@ unfolding region le32
 length-region size t z l = let n : length (slots size t) ≡ size * 32 = length-slots size t z ∙ rw l in omega arith
 
 -- a table of 32 slots written where a table lies: it lies there then, and in its one encoding
-pub table-write : (s : Octets) (at size : ℕ) (t : Table) → at + (4 + size * 32) ≤ length s → Sized size t → length t ≡ 32 → tableAt (writeAt s at (region size t)) at size ≡ t
+pub table-write : (s : Octets) (at size : ℕ) (t : Table) → at + (4 + size * 32) ≤ length s → Sized size t → length t ≡ 32
+    → tableAt (writeAt s at (region size t)) at size ≡ t
 table-write s at size t h z l =
     let n : length (region size t) ≡ 4 + size * 32 = length-region size t z l in
     let m : length (take at s) ≡ at = length-take-le at s (omega arith) in
     let r : Octets = drop (at + length (region size t)) s in
-    let d : drop at (writeAt s at (region size t)) ≡ region size t ++ r = rw (write-at s at (region size t) (rw n h)) (drop-at (take at s) (region size t ++ r) at m) in
+    let d : drop at (writeAt s at (region size t)) ≡ region size t ++ r = rw (write-at s at (region size t) (rw n h))
+    (drop-at (take at s) (region size t ++ r) at m) in
     table-drop (writeAt s at (region size t)) at size ∙ rw d (table-back size t r z l)
 
 -- the octets there are that one encoding
-pub canonical-write : (s : Octets) (at size : ℕ) (t : Table) → at + (4 + size * 32) ≤ length s → Sized size t → length t ≡ 32 → Canonical (writeAt s at (region size t)) at size
+pub canonical-write : (s : Octets) (at size : ℕ) (t : Table) → at + (4 + size * 32) ≤ length s → Sized size t → length t ≡ 32
+    → Canonical (writeAt s at (region size t)) at size
 canonical-write s at size t h z l =
     let n : length (region size t) ≡ 4 + size * 32 = length-region size t z l in
     let p : part (writeAt s at (region size t)) at (length (region size t)) ≡ region size t = part-write s at (region size t) (rw n h) in
     rw (table-write s at size t h z l) (rw n at p)
 
 -- the same where the octets of the table are there already
-pub table-part : (s : Octets) (at size : ℕ) (t : Table) → at + (4 + size * 32) ≤ length s → Sized size t → length t ≡ 32 → part s at (4 + size * 32) ≡ region size t → tableAt s at size ≡ t
+pub table-part : (s : Octets) (at size : ℕ) (t : Table) → at + (4 + size * 32) ≤ length s → Sized size t → length t ≡ 32
+    → part s at (4 + size * 32) ≡ region size t → tableAt s at size ≡ t
 table-part s at size t h z l e =
     let w : writeAt s at (region size t) ≡ s = rw (sym e) (write-part s at (4 + size * 32) h) in
     rw w at (table-write s at size t h z l)
@@ -344,7 +359,8 @@ region-slot size t k y z l h e =
     (rw a at w) ∙ rw (slots-write size t k y z l h e)
 
 -- slot k and then the word written: the table with that slot changed
-slot-over : (s d : Octets) (at size : ℕ) (t : Table) (k : ℕ) (y : Option Octets) → at + (4 + size * 32) ≤ length s → Sized size t → length t ≡ 32 → k < 32 → length (slotOctets size y) ≡ size
+slot-over : (s d : Octets) (at size : ℕ) (t : Table) (k : ℕ) (y : Option Octets) → at + (4 + size * 32) ≤ length s → Sized size t → length t ≡ 32
+    → k < 32 → length (slotOctets size y) ≡ size
     → d ≡ writeAt s at (region size t)
     → writeAt (writeAt d (at + (4 + size * k)) (slotOctets size y)) at (le32 (occupancy (set t k y))) ≡ writeAt s at (region size (set t k y))
 unfolding region
@@ -359,33 +375,40 @@ slot-over s d at size t k y h z n l e q =
     write-in s at (region size t) (4 + size * k) x (rw m h) (rw (m, e) (omega arith)) in
     let b : writeAt d (at + (4 + size * k)) x ≡ writeAt s at o = rw q (w ∙ rw f) in
     let i : length o ≡ 4 + size * 32 = ap length (sym f) ∙ length-writeAt (region size t) (4 + size * k) x ∙ m in
-    let j : writeAt (writeAt s at o) (at + 0) (le32 v) ≡ writeAt s at (writeAt o 0 (le32 v)) = write-in s at o 0 (le32 v) (rw i h) (rw (length-le32 v, i) (omega arith)) in
+    let j : writeAt (writeAt s at o) (at + 0) (le32 v) ≡ writeAt s at (writeAt o 0 (le32 v)) = write-in
+    s at o 0 (le32 v) (rw i h) (rw (length-le32 v, i) (omega arith)) in
     let j′ : writeAt (writeAt s at o) at (le32 v) ≡ writeAt s at (writeAt o 0 (le32 v)) = rw add-zero at j in
     rw b (j′ ∙ rw (word-over (occupancy t) v (slots size (set t k y))))
 
 -- the same, of the table that lies there in its one encoding
-pub slot-changed : (s : Octets) (at size k : ℕ) (y : Option Octets) → at + (4 + size * 32) ≤ length s → Canonical s at size → k < 32 → length (slotOctets size y) ≡ size
-    → writeAt (writeAt s (at + (4 + size * k)) (slotOctets size y)) at (le32 (occupancy (set (tableAt s at size) k y))) ≡ writeAt s at (region size (set (tableAt s at size) k y))
+pub slot-changed : (s : Octets) (at size k : ℕ) (y : Option Octets) → at + (4 + size * 32) ≤ length s → Canonical s at size → k < 32
+    → length (slotOctets size y) ≡ size
+    → writeAt (writeAt s (at + (4 + size * k)) (slotOctets size y)) at (le32 (occupancy (set (tableAt s at size) k y))) ≡ writeAt s at
+    (region size (set (tableAt s at size) k y))
 slot-changed s at size k y h c l e =
     let a : writeAt s at (region size (tableAt s at size)) ≡ s = rw (sym c) (write-part s at (4 + size * 32) h) in
     slot-over s s at size (tableAt s at size) k y h (sized-at s at size h) (length-table s at size) l e (sym a)
 
 -- the record stored in slot k, by the word that the code writes
-pub store-changed : (s : Octets) (at size k : ℕ) (x : Octets) → at + (4 + size * 32) ≤ length s → Canonical s at size → k < 32 → length x ≡ size → u32 s at < 4294967296
+pub store-changed : (s : Octets) (at size k : ℕ) (x : Octets) → at + (4 + size * 32) ≤ length s → Canonical s at size → k < 32 → length x ≡ size
+    → u32 s at < 4294967296
     → writeAt (writeAt s (at + (4 + size * k)) x) at (le32 (bitOr (u32 s at) (2 ^ k))) ≡ writeAt s at (region size (set (tableAt s at size) k (some x)))
 unfolding slotOctets
 store-changed s at size k x h c l e b =
     let n : length (tableAt s at size) ≡ 32 = length-table s at size in
-    let o : occupancy (set (tableAt s at size) k (some x)) ≡ bitOr (u32 s at) (2 ^ k) = rw (word-at s at size b) at (occupancy-some (tableAt s at size) k x (rw n l)) in
+    let o : occupancy (set (tableAt s at size) k (some x)) ≡ bitOr (u32 s at) (2 ^ k) = rw (word-at s at size b) at
+    (occupancy-some (tableAt s at size) k x (rw n l)) in
     rw o at (slot-changed s at size k (some x) h c l e)
 
 -- slot k freed, by the word that the code writes
 pub release-changed : (s : Octets) (at size k : ℕ) → at + (4 + size * 32) ≤ length s → Canonical s at size → k < 32 → u32 s at < 4294967296
-    → writeAt (writeAt s (at + (4 + size * k)) (replicate size 0)) at (le32 (bitAnd (u32 s at) (4294967295 - 2 ^ k))) ≡ writeAt s at (region size (set (tableAt s at size) k none))
+    → writeAt (writeAt s (at + (4 + size * k)) (replicate size 0)) at (le32 (bitAnd (u32 s at) (4294967295 - 2 ^ k))) ≡ writeAt s at
+    (region size (set (tableAt s at size) k none))
 unfolding slotOctets
 release-changed s at size k h c l b =
     let n : length (tableAt s at size) ≡ 32 = length-table s at size in
-    let o : occupancy (set (tableAt s at size) k none) ≡ bitAnd (u32 s at) (4294967295 - 2 ^ k) = rw (word-at s at size b, n) at (occupancy-none (tableAt s at size) k (rw n l)) in
+    let o : occupancy (set (tableAt s at size) k none) ≡ bitAnd (u32 s at) (4294967295 - 2 ^ k) = rw (word-at s at size b, n) at
+    (occupancy-none (tableAt s at size) k (rw n l)) in
     rw o at (slot-changed s at size k none h c l (length-replicate size 0))
 
 -- 6. A whole table written --------------------------------------------------------------------------------------------------------------------------------
@@ -433,5 +456,6 @@ load-changed s at size src from n h l =
     let f : slots size (map some rs ++ replicate (32 - n) none) ≡ run ++ zeros = slots-run size n (drop from src) (32 - n) in
     let g : at + (4 + size * n) ≡ at + 4 + length run = rw b (omega arith) in
     let i : writeAt s at (w ++ (run ++ zeros)) ≡ writeAt (writeAt s at w) (at + 4) (run ++ zeros) = write-split s at w (run ++ zeros) in
-    let j : writeAt (writeAt s at w) (at + 4) (run ++ zeros) ≡ writeAt (writeAt (writeAt s at w) (at + 4) run) (at + 4 + length run) zeros = write-split (writeAt s at w) (at + 4) run zeros in
+    let j : writeAt (writeAt s at w) (at + 4) (run ++ zeros) ≡ writeAt (writeAt (writeAt s at w) (at + 4) run) (at + 4 + length run) zeros =
+    write-split (writeAt s at w) (at + 4) run zeros in
     rw (a, e, f, g) (sym (i ∙ j))

@@ -60,7 +60,8 @@ holds-first m [] = refl
 holds-first m (none ∷ t) = holds-first m t ∙ suc-ltb (firstAt m t) (length t)
 holds-first m (some r ∷ t) = go (m r) (holds-first m t)
   where
-    go : (b : Bool) → any m (entries t) ≡ ltb (firstAt m t) (length t) → b || any m (entries t) ≡ ltb (elim b [ true ↦ 0 | false ↦ suc (firstAt m t) ]) (suc (length t))
+    go : (b : Bool) → any m (entries t) ≡ ltb (firstAt m t) (length t) → b
+        || any m (entries t) ≡ ltb (elim b [ true ↦ 0 | false ↦ suc (firstAt m t) ]) (suc (length t))
     go true e = sym (lt-ltb 0 (suc (length t)) (omega arith))
     go false e = e ∙ suc-ltb (firstAt m t) (length t)
 
@@ -79,7 +80,8 @@ replaced-set m x (none ∷ t) = ap {B = Table} (λ l. none ∷ l) (replaced-set 
 replaced-set m x (some r ∷ t) = go (m r) (replaced-set m x t)
   where
     go : (b : Bool) → replaced m x t ≡ set t (firstAt m t) (some x)
-        → _≡_ {A = Table} (elim b [ true ↦ some x ∷ t | false ↦ some r ∷ replaced m x t ]) (set (some r ∷ t) (elim b [ true ↦ 0 | false ↦ suc (firstAt m t) ]) (some x))
+        → _≡_ {A = Table} (elim b [ true ↦ some x ∷ t | false ↦ some r ∷ replaced m x t ])
+        (set (some r ∷ t) (elim b [ true ↦ 0 | false ↦ suc (firstAt m t) ]) (some x))
     go true e = refl
     go false e = ap {B = Table} (λ l. some r ∷ l) e
 
@@ -112,7 +114,8 @@ freed-first m (none ∷ t) = ap {B = Table} (λ l. none ∷ l) (freed-first m t)
 freed-first m (some r ∷ t) = go (m r) refl (freed-first m t)
   where
     go : (b : Bool) → m r ≡ b → freed m (set t (firstAt m t) none) ≡ freed m t
-        → _≡_ {A = Table} (freed m (set (some r ∷ t) (elim b [ true ↦ 0 | false ↦ suc (firstAt m t) ]) none)) (elim b [ true ↦ none | false ↦ some r ] ∷ freed m t)
+        → _≡_ {A = Table} (freed m (set (some r ∷ t) (elim b [ true ↦ 0 | false ↦ suc (firstAt m t) ]) none))
+        (elim b [ true ↦ none | false ↦ some r ] ∷ freed m t)
     go true q ih = refl
     go false q ih = rw (q, ih)
 
@@ -123,7 +126,8 @@ entries-first m [] l = absurd (omega arith)
 entries-first m (none ∷ t) l = entries-first m t (omega arith)
 entries-first m (some r ∷ t) l = go (m r) l (λ q. entries-first m t q)
   where
-    go : (b : Bool) → elim b [ true ↦ 0 | false ↦ suc (firstAt m t) ] < suc (length t) → (firstAt m t < length t → suc (length (entries (set t (firstAt m t) none))) ≡ length (entries t))
+    go : (b : Bool) → elim b [ true ↦ 0 | false ↦ suc (firstAt m t) ] < suc (length t)
+        → (firstAt m t < length t → suc (length (entries (set t (firstAt m t) none))) ≡ length (entries t))
         → suc (length (entries (set (some r ∷ t) (elim b [ true ↦ 0 | false ↦ suc (firstAt m t) ]) none))) ≡ suc (length (entries t))
     go true l ih = refl
     go false l ih = ap suc (ih (omega arith))
@@ -157,7 +161,8 @@ pub sized-freed : (size : ℕ) (m : Octets → Bool) (t : Table) → Sized size 
 unfolding Sized freed slotOctets
 sized-freed size m [] z = z
 sized-freed size m (none ∷ t) z = (z .0, sized-freed size m t (z .1))
-sized-freed size m (some r ∷ t) z = (either {A = Option Octets} (λ y. length (slotOctets size y) ≡ size) (m r) (λ q. length-replicate size 0) (λ q. z .0), sized-freed size m t (z .1))
+sized-freed size m (some r ∷ t) z =
+    (either {A = Option Octets} (λ y. length (slotOctets size y) ≡ size) (m r) (λ q. length-replicate size 0) (λ q. z .0), sized-freed size m t (z .1))
 
 -- free slots are of any size
 pub sized-nones : (size n : ℕ) → Sized size (replicate n none)

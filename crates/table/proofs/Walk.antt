@@ -21,7 +21,8 @@ use Rattle.table.proofs.Regions.{length-table, from-used, from-free, fr
 next-from : (s : Octets) (size d n v place : ℕ) → n ≤ d → 0 < v → v < 2 ^ n
     → (trailingZeros d v < n)
     × (tableFrom s size v place n
-    ≡ replicate (trailingZeros d v) none ++ (some (part s (place + size * trailingZeros d v) size) ∷ drop (suc (trailingZeros d v)) (tableFrom s size v place n)))
+    ≡ replicate (trailingZeros d v) none ++ (some (part s (place + size * trailingZeros d v) size)
+    ∷ drop (suc (trailingZeros d v)) (tableFrom s size v place n)))
 unfolding trailingZeros
 next-from s size d zero v place h p l = absurd (omega arith)
 next-from s size zero (suc n) v place h p l = absurd (omega arith)
@@ -33,11 +34,13 @@ next-from s size (suc d) (suc n) v place h p l =
         → (v % 2 ≡ 0 → (trailingZeros d (v / 2) < n)
         × (tableFrom s size (v / 2) (place + size) n
         ≡ replicate (trailingZeros d (v / 2)) none
-        ++ (some (part s (place + size + size * trailingZeros d (v / 2)) size) ∷ drop (suc (trailingZeros d (v / 2))) (tableFrom s size (v / 2) (place + size) n))))
+        ++ (some (part s (place + size + size * trailingZeros d (v / 2)) size)
+        ∷ drop (suc (trailingZeros d (v / 2))) (tableFrom s size (v / 2) (place + size) n))))
         → (under b (trailingZeros d (v / 2)) < suc n)
         × (tableFrom s size v place (suc n)
         ≡ replicate (under b (trailingZeros d (v / 2))) none
-        ++ (some (part s (place + size * under b (trailingZeros d (v / 2))) size) ∷ drop (suc (under b (trailingZeros d (v / 2)))) (tableFrom s size v place (suc n))))
+        ++ (some (part s (place + size * under b (trailingZeros d (v / 2))) size)
+        ∷ drop (suc (under b (trailingZeros d (v / 2)))) (tableFrom s size v place (suc n))))
     go zero e ih =
         let j : ℕ = trailingZeros d (v / 2) in
         let f : place + size * suc j ≡ place + size + size * j = omega (arith, mul-suc size j) in
@@ -50,12 +53,14 @@ drop-at-place : (s : Octets) (at size k : ℕ) → drop k (tableAt s at size) �
 drop-at-place s at size k = rw (table-from s at size) at (drop-from s size (u32 s at) (at + 4) 32 k)
 
 -- j free slots passed from slot k on, and then a record
-walk-to : (t : Table) (k j : ℕ) (x : Octets) → drop k t ≡ replicate j none ++ (some x ∷ drop (suc j) (drop k t)) → (drop k t ≡ replicate j none ++ drop (k + j) t) × (drop (k + j) t ≡ some x ∷ drop (k + j + 1) t)
+walk-to : (t : Table) (k j : ℕ) (x : Octets) → drop k t ≡ replicate j none ++ (some x ∷ drop (suc j) (drop k t))
+    → (drop k t ≡ replicate j none ++ drop (k + j) t) × (drop (k + j) t ≡ some x ∷ drop (k + j + 1) t)
 walk-to t k j x e =
     let a : drop j (drop k t) ≡ drop (k + j) t = drop-drop j k t in
     let b : drop (suc j) (drop k t) ≡ drop (k + suc j) t = drop-drop (suc j) k t in
     let c : k + suc j ≡ k + j + 1 = omega arith in
-    let d : drop j (replicate j none ++ (some x ∷ drop (suc j) (drop k t))) ≡ some x ∷ drop (suc j) (drop k t) = drop-at (replicate j none) (some x ∷ drop (suc j) (drop k t)) j (length-replicate j none) in
+    let d : drop j (replicate j none ++ (some x ∷ drop (suc j) (drop k t))) ≡ some x
+    ∷ drop (suc j) (drop k t) = drop-at (replicate j none) (some x ∷ drop (suc j) (drop k t)) j (length-replicate j none) in
     let f : drop j (drop k t) ≡ some x ∷ drop (suc j) (drop k t) = ap (drop j) e ∙ d in
     (rw (← a, f) e, rw (← a, ← c, ← b) f)
 
@@ -96,7 +101,8 @@ first-nones m zero t = rw zero-add
 first-nones m (suc n) t = rw suc-add (ap suc (first-nones m n t))
 
 -- a slot in use: its record, and what is left after it
-pub in-use-entries : (s : Octets) (at size k : ℕ) → InUse s at size k → entries (drop k (tableAt s at size)) ≡ part s (at + (4 + size * k)) size ∷ entries (drop (k + 1) (tableAt s at size))
+pub in-use-entries : (s : Octets) (at size k : ℕ) → InUse s at size k → entries (drop k (tableAt s at size)) ≡ part s (at + (4 + size * k)) size
+    ∷ entries (drop (k + 1) (tableAt s at size))
 unfolding entries
 in-use-entries s at size k u = rw u
 

@@ -81,7 +81,7 @@ pub fn store(s: &mut [u8], at: usize, size: usize, k: usize, rec: &[u8])
 }
 
 // Frees slot k: its octets are zero again, and it is marked as free.
-pub fn release(s: &mut [u8], at: usize, size: usize, k: usize)
+fn release(s: &mut [u8], at: usize, size: usize, k: usize)
     requires { ⌜ (at + (4 + size * 32) ≤ length (now s)) × Canonical (now s) at size × (k < 32) ⌝ }
     ensures { λ _. ⌜ now (s .exit) ≡ writeAt (now (s .entry)) at (region size (set (tableAt (now (s .entry)) at size) k none)) ⌝ }
 {

@@ -16,7 +16,9 @@ same-length : tie.Need-same-length
 same-length c = search needs
 
 returns : tie.Need-returns
-returns c = clock-late _ _ _ _ _ _ (c .before .before .before .before .before .before .pre .0) (c .before .before .clock-at .ensures) (c .before .clock-step .ensures) (c .if1 .taken) refl
+returns c =
+    clock-late _ _ _ _ _ _ (c .before .before .before .before .before .before .pre .0) (c .before .before .clock-at .ensures)
+    (c .before .clock-step .ensures) (c .if1 .taken) refl
 
 tick-requires : tie.Need-tick-requires
 tick-requires c κs = search needs
@@ -40,7 +42,24 @@ same-length-3 : tie.Need-same-length-3
 same-length-3 c = search needs
 
 returns-2 : tie.Need-returns-2
-returns-2 c = clock-done _ _ _ _ _ _ _ _ _ _ _ _ _ _ _ _ _ _ _ (c .before .before .before .before .before .before .before .before .before .before .before .before .before .before .before .before .before .before .before .before .before .before .before .before .before .before .before .before .before .before .before .before .before .before .before .before .before .before .pre .2) (c .before .before .before .before .before .before .before .before .before .before .before .before .before .before .before .before .before .before .before .before .before .before .before .before .before .before .before .before .before .before .before .before .before .before .clock-at .ensures) (c .before .before .before .before .before .before .before .before .before .before .before .before .before .before .before .before .before .before .before .before .before .before .before .before .before .before .before .before .before .before .before .before .before .clock-step .ensures) (c .before .before .before .before .before .before .before .before .before .before .before .before .before .before .before .before .before .before .before .before .before .before .before .before .before .before .before .before .before .before .before .before .if1 .left) (c .before .before .before .before .before .before .before .before .before .before .before .before .before .before .before .before .before .before .before .before .before .before .before .before .before .before .before .before .before .tick .ensures) (c .before .before .before .before .before .before .before .before .before .before .before .before .before .before .before .before .before .before .before .before .before .before .tick2 .ensures) (c .before .before .before .before .before .before .before .before .before .before .before .before .before .before .before .tick3 .ensures) (c .before .before .before .before .before .before .before .before .tick4 .ensures) (c .before .before .put-clock .ensures) refl
+returns-2 c =
+    clock-done _ _ _ _ _ _ _ _ _ _ _ _ _ _ _ _ _ _ _
+    (c .before .before .before .before .before .before .before .before .before .before .before .before .before .before .before .before .before .before
+    .before .before .before .before .before .before .before .before .before .before .before .before .before .before .before .before .before .before
+    .before .before .pre .2)
+    (c .before .before .before .before .before .before .before .before .before .before .before .before .before .before .before .before .before .before
+    .before .before .before .before .before .before .before .before .before .before .before .before .before .before .before .before .clock-at
+    .ensures)
+    (c .before .before .before .before .before .before .before .before .before .before .before .before .before .before .before .before .before .before
+    .before .before .before .before .before .before .before .before .before .before .before .before .before .before .before .clock-step .ensures)
+    (c .before .before .before .before .before .before .before .before .before .before .before .before .before .before .before .before .before .before
+    .before .before .before .before .before .before .before .before .before .before .before .before .before .before .if1 .left)
+    (c .before .before .before .before .before .before .before .before .before .before .before .before .before .before .before .before .before .before
+    .before .before .before .before .before .before .before .before .before .before .before .tick .ensures)
+    (c .before .before .before .before .before .before .before .before .before .before .before .before .before .before .before .before .before .before
+    .before .before .before .before .tick2 .ensures)
+    (c .before .before .before .before .before .before .before .before .before .before .before .before .before .before .before .tick3 .ensures)
+    (c .before .before .before .before .before .before .before .before .tick4 .ensures) (c .before .before .put-clock .ensures) refl
 
 pub clock-spec : {M : Type 1} → statement M
 clock-spec =

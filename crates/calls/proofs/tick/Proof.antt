@@ -24,16 +24,26 @@ with-timer-requires : tie.Need-with-timer-requires
 with-timer-requires c κs = search needs
 
 put-settings-requires : tie.Need-put-settings-requires
-put-settings-requires c κs = ready _ _ (c .before .before .before .before .before .before .before .before .before .before .before .before .before .pre .0) (sym (c .before .before .before .before .before .before .before .before .before .present .ensures) ∙ c .before .before .before .before .before .before .before .before .if1 .taken)
+put-settings-requires c κs =
+    ready _ _ (c .before .before .before .before .before .before .before .before .before .before .before .before .before .pre .0)
+    (sym (c .before .before .before .before .before .before .before .before .before .present .ensures)
+    ∙ c .before .before .before .before .before .before .before .before .if1 .taken)
 
 current-settings-requires : tie.Need-current-settings-requires
 current-settings-requires c κs = search needs
 
 new-settings-requires : tie.Need-new-settings-requires
-new-settings-requires c κs = c .before .before .before .before .before .before .before .before .before .before .before .before .before .before .before .before .before .before .before .pre .3
+new-settings-requires c κs =
+    c .before .before .before .before .before .before .before .before .before .before .before .before .before .before .before .before .before .before
+    .before .pre .3
 
 add-result : tie.Need-add-result
-add-result c = omega (arith, c .before .before .before .before .before .before .before .before .before .before .before .before .before .before .before .before .before .before .before .before .before .before .pre .4)
+add-result c =
+    omega (
+      arith,
+      c .before .before .before .before .before .before .before .before .before .before .before .before .before .before .before .before .before
+          .before .before .before .before .before .pre .4,
+    )
 
 same-length : tie.Need-same-length
 same-length c = search needs
@@ -42,19 +52,47 @@ same-length-2 : tie.Need-same-length-2
 same-length-2 c = search needs
 
 returns : tie.Need-returns
-returns c = tick-ends _ _ _ _ _ _ _ (ready _ _ (c .before .before .before .before .before .before .before .before .before .before .before .before .before .before .before .before .before .before .before .before .before .before .pre .0) (sym (c .before .before .before .before .before .before .before .before .before .before .before .before .before .before .before .before .before .before .present .ensures) ∙ c .before .before .before .before .before .before .before .before .before .before .before .before .before .before .before .before .before .if1 .taken)) _ _ _ _ _ (c .before .before .before .before .before .before .before .before .before .before .before .before .before .before .before .settings-at .ensures) refl (c .before .before .before .before .before .before .before .before .before .before .before .before .ends .ensures) (c .before .before .before .before .before .before .before .before .before .before .before .counted-down .ensures) (c .before .before .before .before .before .before .before .before .before .before .with-timer .ensures) (c .before .before .before .before .before .before .before .before .put-settings .ensures) _ (c .before .before .before .before .before .if2 .taken) (c .before .before .before .before .current-settings .ensures) (c .before .before .new-settings .ensures)
+returns c =
+    tick-ends _ _ _ _ _ _ _
+    (ready _ _
+    (c .before .before .before .before .before .before .before .before .before .before .before .before .before .before .before .before .before .before
+    .before .before .before .before .pre .0) (sym
+    (c .before .before .before .before .before .before .before .before .before .before .before .before .before .before .before .before .before .before
+    .present .ensures)
+    ∙ c .before .before .before .before .before .before .before .before .before .before .before .before .before .before .before .before .before .if1
+    .taken)) _ _ _ _ _
+    (c .before .before .before .before .before .before .before .before .before .before .before .before .before .before .before .settings-at .ensures)
+    refl (c .before .before .before .before .before .before .before .before .before .before .before .before .ends .ensures)
+    (c .before .before .before .before .before .before .before .before .before .before .before .counted-down .ensures)
+    (c .before .before .before .before .before .before .before .before .before .before .with-timer .ensures)
+    (c .before .before .before .before .before .before .before .before .put-settings .ensures) _
+    (c .before .before .before .before .before .if2 .taken) (c .before .before .before .before .current-settings .ensures)
+    (c .before .before .new-settings .ensures)
 
 same-length-3 : tie.Need-same-length-3
 same-length-3 c = search needs
 
 returns-2 : tie.Need-returns-2
-returns-2 c = tick-on _ _ _ _ _ (c .before .before .before .before .before .before .before .before .before .before .before .before .before .before .before .before .before .args .reply .now) _ (ready _ _ (c .before .before .before .before .before .before .before .before .before .before .before .before .before .before .before .before .before .pre .0) (sym (c .before .before .before .before .before .before .before .before .before .before .before .before .before .present .ensures) ∙ c .before .before .before .before .before .before .before .before .before .before .before .before .if1 .taken)) _ _ _ _ _ (c .before .before .before .before .before .before .before .before .before .before .settings-at .ensures) refl (c .before .before .before .before .before .before .before .ends .ensures) (c .before .before .before .before .before .before .counted-down .ensures) (c .before .before .before .before .before .with-timer .ensures) (c .before .before .before .put-settings .ensures) (c .if2 .left)
+returns-2 c =
+    tick-on _ _ _ _ _
+    (c .before .before .before .before .before .before .before .before .before .before .before .before .before .before .before .before .before .args
+    .reply .now) _
+    (ready _ _
+    (c .before .before .before .before .before .before .before .before .before .before .before .before .before .before .before .before .before
+    .pre .0) (sym (c .before .before .before .before .before .before .before .before .before .before .before .before .before .present .ensures)
+    ∙ c .before .before .before .before .before .before .before .before .before .before .before .before .if1 .taken)) _ _ _ _ _
+    (c .before .before .before .before .before .before .before .before .before .before .settings-at .ensures) refl
+    (c .before .before .before .before .before .before .before .ends .ensures)
+    (c .before .before .before .before .before .before .counted-down .ensures) (c .before .before .before .before .before .with-timer .ensures)
+    (c .before .before .before .put-settings .ensures) (c .if2 .left)
 
 same-length-4 : tie.Need-same-length-4
 same-length-4 c = search needs
 
 returns-3 : tie.Need-returns-3
-returns-3 c = tick-absent _ _ _ _ _ (c .before .before .before .before .before .pre .0) (c .before .before .before .before .before .pre .2) (sym (c .before .present .ensures) ∙ c .if1 .left)
+returns-3 c =
+    tick-absent _ _ _ _ _ (c .before .before .before .before .before .pre .0) (c .before .before .before .before .before .pre .2)
+    (sym (c .before .present .ensures) ∙ c .if1 .left)
 
 pub tick-spec : {M : Type 1} → statement M
 tick-spec =

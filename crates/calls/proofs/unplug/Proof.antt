@@ -14,7 +14,9 @@ open-code-requires : tie.Need-open-code-requires
 open-code-requires c κs = (search needs, present-below _ _ (sym (c .before .before .present .ensures) ∙ c .before .if1 .taken))
 
 empty-block-requires : tie.Need-empty-block-requires
-empty-block-requires c κs = ready _ _ (c .before .before .before .before .before .before .before .before .pre .0) (sym (c .before .before .before .before .present .ensures) ∙ c .before .before .before .if1 .taken)
+empty-block-requires c κs =
+    ready _ _ (c .before .before .before .before .before .before .before .before .pre .0)
+    (sym (c .before .before .before .before .present .ensures) ∙ c .before .before .before .if1 .taken)
 
 index-event-requires : tie.Need-index-event-requires
 index-event-requires c κs = search needs
@@ -26,7 +28,16 @@ same-length-2 : tie.Need-same-length-2
 same-length-2 c = search needs
 
 returns : tie.Need-returns
-returns c = unplug-quiet _ _ _ _ _ _ (ready _ _ (c .before .before .before .before .before .before .before .before .before .before .before .before .before .before .before .before .pre .0) (sym (c .before .before .before .before .before .before .before .before .before .before .before .before .present .ensures) ∙ c .before .before .before .before .before .before .before .before .before .before .before .if1 .taken)) (c .before .before .before .before .before .before .before .before .before .before .before .before .before .before .before .before .pre .2) (c .before .before .before .before .before .before .before .empty-block .ensures) _ (c .before .before .before .before .before .before .before .before .before .open-code .ensures) (c .before .before .before .before .if2 .taken) refl (c .before .before .index-event .ensures)
+returns c =
+    unplug-quiet _ _ _ _ _ _
+    (ready _ _
+    (c .before .before .before .before .before .before .before .before .before .before .before .before .before .before .before .before .pre .0)
+    (sym (c .before .before .before .before .before .before .before .before .before .before .before .before .present .ensures)
+    ∙ c .before .before .before .before .before .before .before .before .before .before .before .if1 .taken))
+    (c .before .before .before .before .before .before .before .before .before .before .before .before .before .before .before .before .pre .2)
+    (c .before .before .before .before .before .before .before .empty-block .ensures) _
+    (c .before .before .before .before .before .before .before .before .before .open-code .ensures) (c .before .before .before .before .if2 .taken)
+    refl (c .before .before .index-event .ensures)
 
 command-status-requires : tie.Need-command-status-requires
 command-status-requires c κs = search needs
@@ -41,7 +52,20 @@ same-length-4 : tie.Need-same-length-4
 same-length-4 c = search needs
 
 returns-2 : tie.Need-returns-2
-returns-2 c = unplug-open _ _ _ _ _ _ (ready _ _ (c .before .before .before .before .before .before .before .before .before .before .before .before .before .before .before .before .before .before .before .before .pre .0) (sym (c .before .before .before .before .before .before .before .before .before .before .before .before .before .before .before .before .present .ensures) ∙ c .before .before .before .before .before .before .before .before .before .before .before .before .before .before .before .if1 .taken)) (c .before .before .before .before .before .before .before .before .before .before .before .before .before .before .before .before .before .before .before .before .pre .2) (c .before .before .before .before .before .before .before .before .before .before .before .empty-block .ensures) _ (c .before .before .before .before .before .before .before .before .before .before .before .before .before .open-code .ensures) (c .before .before .before .before .before .before .before .before .if2 .left) refl _ (c .before .before .before .before .before .before .command-status .ensures) (c .before .before .index-event2 .ensures)
+returns-2 c =
+    unplug-open _ _ _ _ _ _
+    (ready _ _
+    (c .before .before .before .before .before .before .before .before .before .before .before .before .before .before .before .before .before .before
+    .before .before .pre .0)
+    (sym
+    (c .before .before .before .before .before .before .before .before .before .before .before .before .before .before .before .before .present
+    .ensures)
+    ∙ c .before .before .before .before .before .before .before .before .before .before .before .before .before .before .before .if1 .taken))
+    (c .before .before .before .before .before .before .before .before .before .before .before .before .before .before .before .before .before .before
+    .before .before .pre .2) (c .before .before .before .before .before .before .before .before .before .before .before .empty-block .ensures) _
+    (c .before .before .before .before .before .before .before .before .before .before .before .before .before .open-code .ensures)
+    (c .before .before .before .before .before .before .before .before .if2 .left) refl _
+    (c .before .before .before .before .before .before .command-status .ensures) (c .before .before .index-event2 .ensures)
 
 same-length-5 : tie.Need-same-length-5
 same-length-5 c = search needs

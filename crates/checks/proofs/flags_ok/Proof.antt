@@ -1,6 +1,6 @@
 -- `checks::flags_ok` meets its contract. At each return the tests that led there pick the case of the definition.
 use Rattle.checks.proofs.Laws.{tests}
-use Rattle.checks.specs.Settings.{flagsFine}
+use Rattle.checks.specs.Settings.{flagsOctetsOk}
 use borrow.Author.Needs.{needs}
 use Rattle.checks.proofs.flags_ok.Statement.{statement}
 use Rattle.checks.proofs.flags_ok.Tie as tie
@@ -36,23 +36,23 @@ shared-slice-read-result : tie.Need-shared-slice-read-result
 shared-slice-read-result c = search needs
 
 returns : tie.Need-returns
-unfolding flagsFine
+unfolding flagsOctetsOk
 returns c = search tests
 
 returns-2 : tie.Need-returns-2
-unfolding flagsFine
+unfolding flagsOctetsOk
 returns-2 c = search tests
 
 returns-3 : tie.Need-returns-3
-unfolding flagsFine
+unfolding flagsOctetsOk
 returns-3 c = search tests
 
 returns-4 : tie.Need-returns-4
-unfolding flagsFine
+unfolding flagsOctetsOk
 returns-4 c = search tests
 
 returns-5 : tie.Need-returns-5
-unfolding flagsFine
+unfolding flagsOctetsOk
 returns-5 c = search tests
 
 pub flags-ok-spec : {M : Type 1} → statement M

@@ -8,13 +8,13 @@ use borrow.Author.Tests.{not-true, not-false}
 use denote.Ref.{now}
 use Rattle.model.specs.declared.Hardware.{Hardware}
 use Rattle.model.specs.Tables.{tableRules}
-use Rattle.checks.specs.Tables.{tablesFine, total, total-six}
+use Rattle.checks.specs.Tables.{tablesOctetsOk, total, total-six}
 use borrow.Author.Needs.{needs}
 use Rattle.checks.proofs.tables_ok.Statement.{statement}
 use Rattle.checks.proofs.tables_ok.Tie as tie
 
 abbrev Inv-loop : tie.InvT-loop
-Inv-loop s place supported at₀ k₀ at k = (at + total (drop k tableRules) ≤ length s) × ((f : Hardware) → f .supported ≡ supported → tablesFine f (drop k tableRules) s at ≡ tablesFine f tableRules s place)
+Inv-loop s place supported at₀ k₀ at k = (at + total (drop k tableRules) ≤ length s) × ((f : Hardware) → f .supported ≡ supported → tablesOctetsOk f (drop k tableRules) s at ≡ tablesOctetsOk f tableRules s place)
 
 abbrev μ-loop : tie.MeasureT-loop
 μ-loop s place supported at₀ k₀ at k = 6 - k

@@ -1,5 +1,5 @@
 -- `checks::waits` meets its contract, by cases on the decision.
-use Rattle.rules.specs.Decisions.{isWait}
+use Rattle.rules.specs.Decisions.{isStarted}
 use borrow.Author.Needs.{needs}
 use Rattle.checks.proofs.waits.Statement.{statement}
 use Rattle.checks.proofs.waits.Tie as tie
@@ -17,19 +17,19 @@ enum-told-4 : tie.Need-enum-told-4
 enum-told-4 c = search needs
 
 returns : tie.Need-returns
-unfolding isWait
+unfolding isStarted
 returns c = rw (c .enum-told .given .1)
 
 returns-2 : tie.Need-returns-2
-unfolding isWait
+unfolding isStarted
 returns-2 c = rw (c .enum-told2 .given .1)
 
 returns-3 : tie.Need-returns-3
-unfolding isWait
+unfolding isStarted
 returns-3 c = rw (c .enum-told3 .given .1)
 
 returns-4 : tie.Need-returns-4
-unfolding isWait
+unfolding isStarted
 returns-4 c = rw (c .enum-told4 .given .1)
 
 pub waits-spec : {M : Type 1} → statement M

@@ -52,7 +52,16 @@ returns-3 : tie.Need-returns-3
 returns-3 c = c .before .before .before .before .devices-command .ensures
 
 information-command-requires : tie.Need-information-command-requires
-information-command-requires c κs = (search needs, search needs, information-left _ (c .before .before .before .before .before .before .before .before .before .before .before .pre .2) (sym (c .before .before .before .before .before .before .before .is-settings .ensures) ∙ c .before .before .before .before .before .before .if1 .left) (sym (c .before .before .before .before .before .is-keys .ensures) ∙ c .before .before .before .before .if2 .left) (sym (c .before .before .before .is-devices .ensures) ∙ c .before .before .if3 .left))
+information-command-requires c κs = (
+  search needs,
+  search needs,
+  information-left _
+      (c .before .before .before .before .before .before .before .before .before .before .before .pre .2)
+      (sym (c .before .before .before .before .before .before .before .is-settings .ensures)
+      ∙ c .before .before .before .before .before .before .if1 .left)
+      (sym (c .before .before .before .before .before .is-keys .ensures) ∙ c .before .before .before .before .if2 .left)
+      (sym (c .before .before .before .is-devices .ensures) ∙ c .before .before .if3 .left),
+)
 
 same-length-7 : tie.Need-same-length-7
 same-length-7 c = search needs

@@ -30,7 +30,8 @@ same-length-4 : tie.Need-same-length-4
 same-length-4 c = search needs
 
 returns-2 : tie.Need-returns-2
-returns-2 c = arm-general _ _ _ 2 _ _ _ _ _ (c .before .before .before .before .before .if2 .taken) readCommands rule-02 (c .before .before .read-commands .ensures)
+returns-2 c =
+    arm-general _ _ _ 2 _ _ _ _ _ (c .before .before .before .before .before .if2 .taken) readCommands rule-02 (c .before .before .read-commands .ensures)
 
 read-indexes-requires : tie.Need-read-indexes-requires
 read-indexes-requires c κs = search needs
@@ -42,7 +43,8 @@ same-length-6 : tie.Need-same-length-6
 same-length-6 c = search needs
 
 returns-3 : tie.Need-returns-3
-returns-3 c = arm-general _ _ _ 3 _ _ _ _ _ (c .before .before .before .before .before .if3 .taken) readIndexes rule-03 (c .before .before .read-indexes .ensures)
+returns-3 c =
+    arm-general _ _ _ 3 _ _ _ _ _ (c .before .before .before .before .before .if3 .taken) readIndexes rule-03 (c .before .before .read-indexes .ensures)
 
 to-controller-requires : tie.Need-to-controller-requires
 to-controller-requires c κs = search needs
@@ -51,7 +53,13 @@ present-requires : tie.Need-present-requires
 present-requires c κs = search needs
 
 controller-command-requires : tie.Need-controller-command-requires
-controller-command-requires c κs = (ready _ _ (c .before .before .before .before .before .before .before .before .before .before .before .before .before .pre .0) (sym (c .before .before .before .present .ensures) ∙ c .before .before .if5 .taken), search needs, sym (c .before .before .before .before .before .before .to-controller .ensures) ∙ c .before .before .before .before .before .if4 .taken)
+controller-command-requires c κs = (
+  ready _ _ (c .before .before .before .before .before .before .before .before .before .before .before .before .before .pre .0)
+      (sym (c .before .before .before .present .ensures) ∙ c .before .before .if5 .taken),
+  search needs,
+  sym
+      (c .before .before .before .before .before .before .to-controller .ensures) ∙ c .before .before .before .before .before .if4 .taken,
+)
 
 same-length-7 : tie.Need-same-length-7
 same-length-7 c = search needs
@@ -72,7 +80,13 @@ same-length-10 : tie.Need-same-length-10
 same-length-10 c = search needs
 
 returns-5 : tie.Need-returns-5
-returns-5 c = arm-absent _ _ _ _ _ _ _ (c .before .before .before .before .before .before .before .before .before .before .before .before .before .before .before .pre .0) (search needs) (sym (c .before .before .before .before .before .before .before .before .to-controller .ensures) ∙ c .before .before .before .before .before .before .before .if4 .taken) (sym (c .before .before .before .before .before .present .ensures) ∙ c .before .before .before .before .if5 .left) (c .before .before .refuse .ensures .0) (c .before .before .refuse .ensures .1)
+returns-5 c =
+    arm-absent _ _ _ _ _ _ _
+    (c .before .before .before .before .before .before .before .before .before .before .before .before .before .before .before .pre .0) (search needs)
+    (sym (c .before .before .before .before .before .before .before .before .to-controller .ensures)
+    ∙ c .before .before .before .before .before .before .before .if4 .taken)
+    (sym (c .before .before .before .before .before .present .ensures) ∙ c .before .before .before .before .if5 .left)
+    (c .before .before .refuse .ensures .0) (c .before .before .refuse .ensures .1)
 
 refuse-requires-2 : tie.Need-refuse-requires-2
 refuse-requires-2 c κs = search needs
@@ -81,7 +95,12 @@ same-length-11 : tie.Need-same-length-11
 same-length-11 c = search needs
 
 returns-6 : tie.Need-returns-6
-returns-6 c = arm-unknown _ _ _ _ _ _ _ (c .before .before .before .before .before .before .before .before .before .before .before .before .pre .0) (search needs) (c .before .before .before .before .before .before .before .before .if1 .left) (c .before .before .before .before .before .before .before .if2 .left) (c .before .before .before .before .before .before .if3 .left) (sym (c .before .before .before .before .before .to-controller .ensures) ∙ c .before .before .before .before .if4 .left) (c .before .before .refuse2 .ensures .0) (c .before .before .refuse2 .ensures .1)
+returns-6 c =
+    arm-unknown _ _ _ _ _ _ _ (c .before .before .before .before .before .before .before .before .before .before .before .before .pre .0)
+    (search needs) (c .before .before .before .before .before .before .before .before .if1 .left)
+    (c .before .before .before .before .before .before .before .if2 .left) (c .before .before .before .before .before .before .if3 .left)
+    (sym (c .before .before .before .before .before .to-controller .ensures) ∙ c .before .before .before .before .if4 .left)
+    (c .before .before .refuse2 .ensures .0) (c .before .before .refuse2 .ensures .1)
 
 pub dispatch-spec : {M : Type 1} → statement M
 dispatch-spec =

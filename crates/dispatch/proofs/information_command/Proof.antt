@@ -16,7 +16,9 @@ same-length-2 : tie.Need-same-length-2
 same-length-2 c = search needs
 
 returns : tie.Need-returns
-returns c = arm-immediate _ _ _ 4 _ _ _ _ _ (c .before .before .before .before .before .if1 .taken) readInformation rule-04 (search needs) (c .before .before .read-information .ensures)
+returns c =
+    arm-immediate _ _ _ 4 _ _ _ _ _ (c .before .before .before .before .before .if1 .taken) readInformation rule-04 (search needs)
+    (c .before .before .read-information .ensures)
 
 set-local-name-requires : tie.Need-set-local-name-requires
 set-local-name-requires c κs = search needs
@@ -28,7 +30,11 @@ same-length-4 : tie.Need-same-length-4
 same-length-4 c = search needs
 
 returns-2 : tie.Need-returns-2
-returns-2 c = arm-immediate _ _ _ 15 _ _ _ _ _ (information-last _ (c .before .before .before .before .before .before .before .before .before .before .before .pre .2) (c .before .before .before .before .before .before .before .if1 .left)) setLocalName rule-0F (search needs) (c .before .before .before .before .set-local-name .ensures)
+returns-2 c =
+    arm-immediate _ _ _ 15 _ _ _ _ _ (information-last _
+    (c .before .before .before .before .before .before .before .before .before .before .before .pre .2)
+    (c .before .before .before .before .before .before .before .if1 .left)) setLocalName rule-0F (search needs)
+    (c .before .before .before .before .set-local-name .ensures)
 
 pub information-command-spec : {M : Type 1} → statement M
 information-command-spec =

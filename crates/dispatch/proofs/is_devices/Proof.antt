@@ -1,7 +1,8 @@
 -- `dispatch::is_devices` meets its contract.
 use Prim.Native.Nat.{_-_}
 use borrow.Author.Tests.{eq-eqb, ne-eqb}
-use Rattle.dispatch.specs.Codes.{member, deviceCodes, or-nothing}
+use Rattle.dispatch.specs.Groups.{member, deviceCodes}
+use Rattle.dispatch.proofs.Groups.{or-nothing}
 use Rattle.dispatch.proofs.is_devices.Statement.{statement}
 use Rattle.dispatch.proofs.is_devices.Tie as tie
 

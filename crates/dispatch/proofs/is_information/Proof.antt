@@ -1,7 +1,8 @@
 -- `dispatch::is_information` meets its contract.
 use Prim.Native.Nat.{_-_}
 use borrow.Author.Tests.{eq-eqb, ne-eqb}
-use Rattle.dispatch.specs.Codes.{member, informationCodes, or-nothing}
+use Rattle.dispatch.specs.Groups.{member, informationCodes}
+use Rattle.dispatch.proofs.Groups.{or-nothing}
 use Rattle.dispatch.proofs.is_information.Statement.{statement}
 use Rattle.dispatch.proofs.is_information.Tie as tie
 

@@ -1,7 +1,8 @@
 -- `dispatch::is_keys` meets its contract.
 use Prim.Native.Nat.{_-_}
 use borrow.Author.Tests.{eq-eqb, ne-eqb}
-use Rattle.dispatch.specs.Codes.{member, keyCodes, or-nothing}
+use Rattle.dispatch.specs.Groups.{member, keyCodes}
+use Rattle.dispatch.proofs.Groups.{or-nothing}
 use Rattle.dispatch.proofs.is_keys.Statement.{statement}
 use Rattle.dispatch.proofs.is_keys.Tie as tie
 

@@ -1,7 +1,8 @@
 -- `dispatch::is_settings` meets its contract.
 use Prim.Native.Nat.{_-_}
 use borrow.Author.Tests.{eq-eqb, ne-eqb}
-use Rattle.dispatch.specs.Codes.{member, settingsCodes, or-nothing}
+use Rattle.dispatch.specs.Groups.{member, settingsCodes}
+use Rattle.dispatch.proofs.Groups.{or-nothing}
 use Rattle.dispatch.proofs.is_settings.Statement.{statement}
 use Rattle.dispatch.proofs.is_settings.Tie as tie
 

@@ -17,7 +17,9 @@ same-length-2 : tie.Need-same-length-2
 same-length-2 c = search needs
 
 returns : tie.Need-returns
-returns c = arm-radio _ _ _ 5 _ _ _ _ _ (c .before .before .before .before .before .before .before .if1 .taken) setPowered rule-05 (search needs) (c .before .before .before .before .set-powered .ensures)
+returns c =
+    arm-radio _ _ _ 5 _ _ _ _ _ (c .before .before .before .before .before .before .before .if1 .taken) setPowered rule-05 (search needs)
+    (c .before .before .before .before .set-powered .ensures)
 
 set-discoverable-requires : tie.Need-set-discoverable-requires
 set-discoverable-requires c κs = search needs
@@ -29,7 +31,9 @@ same-length-4 : tie.Need-same-length-4
 same-length-4 c = search needs
 
 returns-2 : tie.Need-returns-2
-returns-2 c = arm-radio _ _ _ 6 _ _ _ _ _ (c .before .before .before .before .before .before .before .if2 .taken) setDiscoverable rule-06 (search needs) (c .before .before .before .before .set-discoverable .ensures)
+returns-2 c =
+    arm-radio _ _ _ 6 _ _ _ _ _ (c .before .before .before .before .before .before .before .if2 .taken) setDiscoverable rule-06 (search needs)
+    (c .before .before .before .before .set-discoverable .ensures)
 
 set-connectable-requires : tie.Need-set-connectable-requires
 set-connectable-requires c κs = search needs
@@ -41,7 +45,9 @@ same-length-6 : tie.Need-same-length-6
 same-length-6 c = search needs
 
 returns-3 : tie.Need-returns-3
-returns-3 c = arm-radio _ _ _ 7 _ _ _ _ _ (c .before .before .before .before .before .before .before .if3 .taken) setConnectable rule-07 (search needs) (c .before .before .before .before .set-connectable .ensures)
+returns-3 c =
+    arm-radio _ _ _ 7 _ _ _ _ _ (c .before .before .before .before .before .before .before .if3 .taken) setConnectable rule-07 (search needs)
+    (c .before .before .before .before .set-connectable .ensures)
 
 set-bondable-requires : tie.Need-set-bondable-requires
 set-bondable-requires c κs = search needs
@@ -53,7 +59,9 @@ same-length-8 : tie.Need-same-length-8
 same-length-8 c = search needs
 
 returns-4 : tie.Need-returns-4
-returns-4 c = arm-immediate _ _ _ 9 _ _ _ _ _ (c .before .before .before .before .before .before .before .if4 .taken) setBondable rule-09 (search needs) (c .before .before .before .before .set-bondable .ensures)
+returns-4 c =
+    arm-immediate _ _ _ 9 _ _ _ _ _ (c .before .before .before .before .before .before .before .if4 .taken) setBondable rule-09 (search needs)
+    (c .before .before .before .before .set-bondable .ensures)
 
 set-low-energy-requires : tie.Need-set-low-energy-requires
 set-low-energy-requires c κs = search needs
@@ -65,7 +73,9 @@ same-length-10 : tie.Need-same-length-10
 same-length-10 c = search needs
 
 returns-5 : tie.Need-returns-5
-returns-5 c = arm-radio _ _ _ 13 _ _ _ _ _ (c .before .before .before .before .before .before .before .if5 .taken) setLowEnergy rule-0D (search needs) (c .before .before .before .before .set-low-energy .ensures)
+returns-5 c =
+    arm-radio _ _ _ 13 _ _ _ _ _ (c .before .before .before .before .before .before .before .if5 .taken) setLowEnergy rule-0D (search needs)
+    (c .before .before .before .before .set-low-energy .ensures)
 
 set-static-address-requires : tie.Need-set-static-address-requires
 set-static-address-requires c κs = search needs
@@ -77,7 +87,15 @@ same-length-12 : tie.Need-same-length-12
 same-length-12 c = search needs
 
 returns-6 : tie.Need-returns-6
-returns-6 c = arm-radio _ _ _ 43 _ _ _ _ _ (settings-last _ (c .before .before .before .before .before .before .before .before .before .before .before .before .before .before .before .pre .2) (c .before .before .before .before .before .before .before .before .before .before .before .if1 .left) (c .before .before .before .before .before .before .before .before .before .before .if2 .left) (c .before .before .before .before .before .before .before .before .before .if3 .left) (c .before .before .before .before .before .before .before .before .if4 .left) (c .before .before .before .before .before .before .before .if5 .left)) setStaticAddress rule-2B (search needs) (c .before .before .before .before .set-static-address .ensures)
+returns-6 c =
+    arm-radio _ _ _ 43 _ _ _ _ _ (settings-last _
+    (c .before .before .before .before .before .before .before .before .before .before .before .before .before .before .before .pre .2)
+    (c .before .before .before .before .before .before .before .before .before .before .before .if1 .left)
+    (c .before .before .before .before .before .before .before .before .before .before .if2 .left)
+    (c .before .before .before .before .before .before .before .before .before .if3 .left)
+    (c .before .before .before .before .before .before .before .before .if4 .left)
+    (c .before .before .before .before .before .before .before .if5 .left)) setStaticAddress rule-2B (search needs)
+    (c .before .before .before .before .set-static-address .ensures)
 
 pub settings-command-spec : {M : Type 1} → statement M
 settings-command-spec =

@@ -1,7 +1,7 @@
 -- `dispatch::to_controller` meets its contract.
 use Prim.Native.Nat.{_-_}
 use borrow.Author.Needs.{needs}
-use Rattle.dispatch.specs.Codes.{controller-groups}
+use Rattle.dispatch.proofs.Groups.{controller-groups}
 use Rattle.dispatch.proofs.to_controller.Statement.{statement}
 use Rattle.dispatch.proofs.to_controller.Tie as tie
 
@@ -15,19 +15,42 @@ is-keys-requires : tie.Need-is-keys-requires
 is-keys-requires c κs = search needs
 
 returns-2 : tie.Need-returns-2
-returns-2 c = rw (controller-groups, ← c .before .before .before .is-settings .ensures, c .before .before .if1 .left, ← c .before .is-keys .ensures, c .if2 .taken)
+returns-2 c =
+    rw (controller-groups, ← c .before .before .before .is-settings .ensures, c .before .before .if1 .left, ← c .before .is-keys .ensures, c .if2 .taken)
 
 is-devices-requires : tie.Need-is-devices-requires
 is-devices-requires c κs = search needs
 
 returns-3 : tie.Need-returns-3
-returns-3 c = rw (controller-groups, ← c .before .before .before .before .before .is-settings .ensures, c .before .before .before .before .if1 .left, ← c .before .before .before .is-keys .ensures, c .before .before .if2 .left, ← c .before .is-devices .ensures, c .if3 .taken)
+returns-3 c =
+    rw (
+      controller-groups,
+      ← c .before .before .before .before .before .is-settings .ensures,
+      c .before .before .before .before .if1 .left,
+      ←
+          c .before .before .before .is-keys .ensures,
+      c .before .before .if2 .left,
+      ← c .before .is-devices .ensures,
+      c .if3 .taken,
+    )
 
 is-information-requires : tie.Need-is-information-requires
 is-information-requires c κs = search needs
 
 returns-4 : tie.Need-returns-4
-returns-4 c = rw (controller-groups, ← c .before .before .before .before .before .before .is-settings .ensures, c .before .before .before .before .before .if1 .left, ← c .before .before .before .before .is-keys .ensures, c .before .before .before .if2 .left, ← c .before .before .is-devices .ensures, c .before .if3 .left) (c .is-information .ensures)
+returns-4 c =
+    rw (
+      controller-groups,
+      ←
+          c .before .before .before .before .before .before .is-settings .ensures,
+      c .before .before .before .before .before .if1 .left,
+      ←
+          c .before .before .before .before .is-keys .ensures,
+      c .before .before .before .if2 .left,
+      ←
+          c .before .before .is-devices .ensures,
+      c .before .if3 .left,
+    ) (c .is-information .ensures)
 
 pub to-controller-spec : {M : Type 1} → statement M
 to-controller-spec =

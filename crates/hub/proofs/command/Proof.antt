@@ -4,7 +4,7 @@ use Prim.Native.Nat.{_-_}
 use native.Mathlib.Omega.{arith}
 use borrow.Author.Needs.{needs}
 use Rattle.model.specs.Proof.Demand3.{state-long}
-use Rattle.hub.specs.Entries.{gives-bad}
+use Rattle.hub.proofs.Entries.{gives-bad}
 use Rattle.hub.proofs.Laws.{packet-long, params-all}
 use Rattle.hub.proofs.Bridge.{command-done, command-no-packet, command-no-room}
 use Rattle.hub.proofs.command.Statement.{statement}
@@ -13,26 +13,33 @@ use Rattle.hub.proofs.command.Tie as tie
 well-formed-requires : tie.Need-well-formed-requires
 well-formed-requires c κs = search needs
 
-framed-requires : tie.Need-framed-requires
-framed-requires c κs = search needs
+packet-ok-requires : tie.Need-packet-ok-requires
+packet-ok-requires c κs = search needs
 
 u16-at-requires : tie.Need-u16-at-requires
-u16-at-requires c κs = omega (arith, packet-long _ (sym (c .before .framed .ensures) ∙ c .if3 .taken))
+u16-at-requires c κs = omega (arith, packet-long _ (sym (c .before .packet-ok .ensures) ∙ c .if3 .taken))
 
 u16-at-requires-2 : tie.Need-u16-at-requires-2
-u16-at-requires-2 c κs = omega (arith, packet-long _ (sym (c .before .before .framed .ensures) ∙ c .before .if3 .taken))
+u16-at-requires-2 c κs = omega (arith, packet-long _ (sym (c .before .before .packet-ok .ensures) ∙ c .before .if3 .taken))
 
 sub-dispatch : tie.Need-sub-dispatch
-sub-dispatch c = omega (arith, packet-long _ (sym (c .before .before .before .before .framed .ensures) ∙ c .before .before .before .if3 .taken))
+sub-dispatch c = omega (arith, packet-long _ (sym (c .before .before .before .before .packet-ok .ensures) ∙ c .before .before .before .if3 .taken))
 
 part-dispatch-start : tie.Need-part-dispatch-start
-part-dispatch-start c = omega (arith, packet-long _ (sym (c .before .before .before .before .framed .ensures) ∙ c .before .before .before .if3 .taken))
+part-dispatch-start c = omega (arith, packet-long _ (sym (c .before .before .before .before .packet-ok .ensures) ∙ c .before .before .before .if3 .taken))
 
 part-dispatch-end : tie.Need-part-dispatch-end
 part-dispatch-end c = search needs
 
 dispatch-requires : tie.Need-dispatch-requires
-dispatch-requires c κs = ((sym (c .before .before .before .before .before .before .before .before .before .well-formed .ensures) ∙ c .before .before .before .before .before .before .before .before .if1 .taken), state-long _ (sym (c .before .before .before .before .before .before .before .before .before .well-formed .ensures) ∙ c .before .before .before .before .before .before .before .before .if1 .taken), search needs)
+dispatch-requires c κs = (
+  (sym (c .before .before .before .before .before .before .before .before .before .well-formed .ensures)
+      ∙ c .before .before .before .before .before .before .before .before .if1 .taken),
+  state-long _
+      (sym (c .before .before .before .before .before .before .before .before .before .well-formed .ensures)
+      ∙ c .before .before .before .before .before .before .before .before .if1 .taken),
+  search needs,
+)
 
 same-length : tie.Need-same-length
 same-length c = search needs
@@ -41,13 +48,27 @@ same-length-2 : tie.Need-same-length-2
 same-length-2 c = search needs
 
 returns : tie.Need-returns
-returns c = command-done _ _ _ _ _ _ _ _ _ (sym (c .before .before .before .before .before .before .before .before .before .before .before .before .before .before .well-formed .ensures) ∙ c .before .before .before .before .before .before .before .before .before .before .before .before .before .if1 .taken) (c .before .before .before .before .before .before .before .before .before .before .before .before .if2 .taken) (sym (c .before .before .before .before .before .before .before .before .before .before .before .framed .ensures) ∙ c .before .before .before .before .before .before .before .before .before .before .if3 .taken) (c .before .before .before .before .before .before .before .before .before .u16-at .ensures .0) (c .before .before .before .before .before .before .before .before .u16-at2 .ensures .0) (rw (params-all (c .before .before .before .before .before .before .before .before .before .before .before .before .before .before .before .before .before .before .before .args .packet .now)) at (c .before .before .before .before .dispatch .ensures))
+returns c =
+    command-done _ _ _ _ _ _ _ _ _
+    (sym (c .before .before .before .before .before .before .before .before .before .before .before .before .before .before .well-formed .ensures)
+    ∙ c .before .before .before .before .before .before .before .before .before .before .before .before .before .if1 .taken)
+    (c .before .before .before .before .before .before .before .before .before .before .before .before .if2 .taken)
+    (sym (c .before .before .before .before .before .before .before .before .before .before .before .packet-ok .ensures)
+    ∙ c .before .before .before .before .before .before .before .before .before .before .if3 .taken)
+    (c .before .before .before .before .before .before .before .before .before .u16-at .ensures .0)
+    (c .before .before .before .before .before .before .before .before .u16-at2 .ensures .0)
+    (rw
+    (params-all
+    (c .before .before .before .before .before .before .before .before .before .before .before .before .before .before .before .before .before .before
+    .before .args .packet .now)) at (c .before .before .before .before .dispatch .ensures))
 
 same-length-3 : tie.Need-same-length-3
 same-length-3 c = search needs
 
 returns-2 : tie.Need-returns-2
-returns-2 c = command-no-packet _ _ _ _ (sym (c .before .before .before .before .well-formed .ensures) ∙ c .before .before .before .if1 .taken) (c .before .before .if2 .taken) (sym (c .before .framed .ensures) ∙ c .if3 .left)
+returns-2 c =
+    command-no-packet _ _ _ _ (sym (c .before .before .before .before .well-formed .ensures) ∙ c .before .before .before .if1 .taken)
+    (c .before .before .if2 .taken) (sym (c .before .packet-ok .ensures) ∙ c .if3 .left)
 
 same-length-4 : tie.Need-same-length-4
 same-length-4 c = search needs
@@ -66,7 +87,7 @@ command-spec =
     tie.close
     (tie.spec
     well-formed-requires
-    framed-requires
+    packet-ok-requires
     u16-at-requires
     u16-at-requires-2
     sub-dispatch

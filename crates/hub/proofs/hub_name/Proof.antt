@@ -1,7 +1,7 @@
 -- `hub::hub_name` meets its contract.
 use Prim.Native.Nat.{_-_}
 use borrow.Author.Needs.{needs}
-use Rattle.hub.specs.Entries.{returns-packed}
+use Rattle.hub.proofs.Entries.{returns-packed}
 use Rattle.hub.proofs.Bridge.{name-count}
 use Rattle.hub.proofs.hub_name.Statement.{statement}
 use Rattle.hub.proofs.hub_name.Tie as tie

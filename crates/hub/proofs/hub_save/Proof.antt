@@ -2,7 +2,7 @@
 use Prim.Native.Nat.{_-_}
 use borrow.Author.Needs.{needs}
 use Rattle.model.specs.Meanings.{hubSave}
-use Rattle.hub.specs.Entries.{count-call, returns-packed}
+use Rattle.hub.proofs.Entries.{count-call, returns-packed}
 use Rattle.hub.proofs.hub_save.Statement.{statement}
 use Rattle.hub.proofs.hub_save.Tie as tie
 

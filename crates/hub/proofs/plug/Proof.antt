@@ -4,7 +4,7 @@ use Prim.Native.Nat.{_-_}
 use borrow.Author.Needs.{needs}
 use Rattle.calls.specs.Given.{hardwareGiven}
 use Rattle.model.specs.Proof.Demand3.{state-long}
-use Rattle.hub.specs.Entries.{gives-bad}
+use Rattle.hub.proofs.Entries.{gives-bad}
 use Rattle.hub.proofs.Bridge.{plug-done, plug-no-room}
 use Rattle.hub.proofs.plug.Statement.{statement}
 use Rattle.hub.proofs.plug.Tie as tie
@@ -13,7 +13,12 @@ well-formed-requires : tie.Need-well-formed-requires
 well-formed-requires c κs = search needs
 
 plug-requires : tie.Need-plug-requires
-plug-requires c κs = ((sym (c .before .before .before .before .well-formed .ensures) ∙ c .before .before .before .if1 .taken), state-long _ (sym (c .before .before .before .before .well-formed .ensures) ∙ c .before .before .before .if1 .taken), search needs)
+plug-requires c κs = (
+  (sym (c .before .before .before .before .well-formed .ensures) ∙ c .before .before .before .if1 .taken),
+  state-long _
+      (sym (c .before .before .before .before .well-formed .ensures) ∙ c .before .before .before .if1 .taken),
+  search needs,
+)
 
 same-length : tie.Need-same-length
 same-length c = search needs
@@ -23,7 +28,10 @@ same-length-2 c = search needs
 
 returns : tie.Need-returns
 unfolding hardwareGiven
-returns c = plug-done _ _ _ _ _ _ _ _ (sym (c .before .before .before .before .before .before .before .before .before .well-formed .ensures) ∙ c .before .before .before .before .before .before .before .before .if1 .taken) (c .before .before .before .before .before .before .before .if2 .taken) (c .before .before .before .before .plug .ensures)
+returns c =
+    plug-done _ _ _ _ _ _ _ _ (sym (c .before .before .before .before .before .before .before .before .before .well-formed .ensures)
+    ∙ c .before .before .before .before .before .before .before .before .if1 .taken)
+    (c .before .before .before .before .before .before .before .if2 .taken) (c .before .before .before .before .plug .ensures)
 
 same-length-3 : tie.Need-same-length-3
 same-length-3 c = search needs

@@ -2,7 +2,7 @@
 use mathlib.Core.Path.{refl, sym, _∙_}
 use Prim.Native.Nat.{_-_}
 use borrow.Author.Needs.{needs}
-use Rattle.hub.specs.Entries.{gives-bad}
+use Rattle.hub.proofs.Entries.{gives-bad}
 use Rattle.hub.proofs.Bridge.{save-done, save-no-room}
 use Rattle.hub.proofs.save.Statement.{statement}
 use Rattle.hub.proofs.save.Tie as tie
@@ -17,7 +17,9 @@ same-length : tie.Need-same-length
 same-length c = search needs
 
 returns : tie.Need-returns
-returns c = save-done _ _ _ _ _ _ (sym (c .before .before .before .before .before .before .well-formed .ensures) ∙ c .before .before .before .before .before .if1 .taken) (c .before .before .before .before .if2 .taken) (c .before .before .save .ensures)
+returns c =
+    save-done _ _ _ _ _ _ (sym (c .before .before .before .before .before .before .well-formed .ensures)
+    ∙ c .before .before .before .before .before .if1 .taken) (c .before .before .before .before .if2 .taken) (c .before .before .save .ensures)
 
 returns-2 : tie.Need-returns-2
 returns-2 c = save-no-room _ _ _ (sym (c .before .before .well-formed .ensures) ∙ c .before .if1 .taken) (c .if2 .left)

@@ -22,7 +22,9 @@ name-place-requires c κs = search needs
 
 copy-part-requires : tie.Need-copy-part-requires
 unfolding placeOf placeAt sizes
-copy-part-requires c κs = let r = c .before .before .before .before .before .before .before .before .before .pre .0 in let a = r .below in let b = r .long in let n = c .name-place .ensures in let k = c .before .before .before .before .save-fixed .kept .1 .1 .0 in (omega arith, omega arith)
+copy-part-requires c κs =
+    let r = c .before .before .before .before .before .before .before .before .before .pre .0 in let a = r .below in let b = r .long in
+    let n = c .name-place .ensures in let k = c .before .before .before .before .save-fixed .kept .1 .1 .0 in (omega arith, omega arith)
 
 add-save-tables : tie.Need-add-save-tables
 add-save-tables c = search needs
@@ -34,7 +36,14 @@ same-length : tie.Need-same-length
 same-length c = search needs
 
 returns : tie.Need-returns
-returns c = let e = controller-written _ _ _ _ _ _ _ _ _ _ (c .before .before .before .before .before .before .before .before .before .before .before .before .before .before .before .before .pre .0) (c .before .before .before .before .before .before .before .before .before .before .before .before .before .settings-at .ensures) (c .before .before .before .before .before .before .before .before .before .before .before .save-fixed .ensures) (c .before .before .before .before .before .before .before .name-place .ensures) (c .before .before .before .before .before .before .copy-part .ensures) (c .before .before .save-tables .ensures .0) (c .before .before .save-tables .ensures .2) in (e .0, search needs, e .1)
+returns c =
+    let e = controller-written _ _ _ _ _ _ _ _ _ _
+    (c .before .before .before .before .before .before .before .before .before .before .before .before .before .before .before .before .pre .0)
+    (c .before .before .before .before .before .before .before .before .before .before .before .before .before .settings-at .ensures)
+    (c .before .before .before .before .before .before .before .before .before .before .before .save-fixed .ensures)
+    (c .before .before .before .before .before .before .before .name-place .ensures)
+    (c .before .before .before .before .before .before .copy-part .ensures) (c .before .before .save-tables .ensures .0)
+    (c .before .before .save-tables .ensures .2) in (e .0, search needs, e .1)
 
 pub save-controller-spec : {M : Type 1} → statement M
 save-controller-spec =

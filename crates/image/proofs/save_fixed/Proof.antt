@@ -18,7 +18,9 @@ slice-aggregate-copy-into : tie.Need-slice-aggregate-copy-into
 slice-aggregate-copy-into c = search needs
 
 copy-into-requires : tie.Need-copy-into-requires
-copy-into-requires c κs = let o : 6 ≡ length (c .before .before .before .before .before .before .before .before .args .m .radio .staticAddress) = slice-aggregate-copy-into c in omega arith
+copy-into-requires c κs =
+    let o : 6 ≡ length (c .before .before .before .before .before .before .before .before .args .m .radio .staticAddress) = slice-aggregate-copy-into
+    c in omega arith
 
 add-copy-into-2 : tie.Need-add-copy-into-2
 add-copy-into-2 c = search needs
@@ -27,7 +29,11 @@ slice-aggregate-copy-into-2 : tie.Need-slice-aggregate-copy-into-2
 slice-aggregate-copy-into-2 c = search needs
 
 copy-into-requires-2 : tie.Need-copy-into-requires-2
-copy-into-requires-2 c κs = let k = c .before .before .before .before .copy-into .kept .0 in let o : 6 ≡ length (c .before .before .before .before .before .before .before .before .before .before .before .before .before .args .m .radio .hardware .publicAddress) = slice-aggregate-copy-into-2 c in omega arith
+copy-into-requires-2 c κs =
+    let k = c .before .before .before .before .copy-into .kept .0 in
+    let o : 6 ≡ length
+    (c .before .before .before .before .before .before .before .before .before .before .before .before .before .args .m .radio .hardware
+    .publicAddress) = slice-aggregate-copy-into-2 c in omega arith
 
 add-copy-into-3 : tie.Need-add-copy-into-3
 add-copy-into-3 c = search needs
@@ -48,7 +54,17 @@ same-length : tie.Need-same-length
 same-length c = search needs
 
 returns : tie.Need-returns
-returns c = fixed-written _ _ _ _ _ _ _ _ (c .before .before .before .before .before .before .before .before .before .before .before .before .before .before .before .before .before .before .before .before .before .before .before .before .before .pre .1) (sym (slice-aggregate-copy-into-2 (c .before .before .before .before .before .before .before .before .before .before .before .before))) (c .before .before .before .before .before .before .before .before .before .before .before .before .before .before .before .before .copy-into .ensures) (c .before .before .before .before .before .before .before .before .before .before .before .copy-into2 .ensures) (c .before .before .before .before .before .before .copy-into3 .ensures ∙ rw (c .before .before .before .before .before .before .before .before .before .before .before .before .before .before .before .before .before .before .before .before .before .before .before .numbers .ensures)) (c .before .before .put8 .ensures)
+returns c =
+    fixed-written _ _ _ _ _ _ _ _
+    (c .before .before .before .before .before .before .before .before .before .before .before .before .before .before .before .before .before .before
+    .before .before .before .before .before .before .before .pre .1)
+    (sym (slice-aggregate-copy-into-2 (c .before .before .before .before .before .before .before .before .before .before .before .before)))
+    (c .before .before .before .before .before .before .before .before .before .before .before .before .before .before .before .before .copy-into
+    .ensures) (c .before .before .before .before .before .before .before .before .before .before .before .copy-into2 .ensures)
+    (c .before .before .before .before .before .before .copy-into3 .ensures
+    ∙ rw
+    (c .before .before .before .before .before .before .before .before .before .before .before .before .before .before .before .before .before .before
+    .before .before .before .before .before .numbers .ensures)) (c .before .before .put8 .ensures)
 
 pub save-fixed-spec : {M : Type 1} → statement M
 save-fixed-spec =

@@ -23,7 +23,12 @@ size-of-requires : tie.Need-size-of-requires Inv-loop μ-loop
 size-of-requires c κs = search needs
 
 save-records-requires : tie.Need-save-records-requires Inv-loop μ-loop
-save-records-requires c κs = let r = c .before .before .before .before .before .before .before .pre .0 in let f = table-fits _ _ (r .below) (c .before .before .before .loop-test .taken) in let a = c .before .before .table-place .ensures in let b = c .before .size-of .ensures in let g = tables-room _ _ r _ _ _ _ _ (c .before .before .before .loop-test .taken) (c .before .before .before .before .loop .inv .1) in let k = c .before .before .before .before .loop .inv .1 .long in let n = r .long in (omega arith, omega arith)
+save-records-requires c κs =
+    let r = c .before .before .before .before .before .before .before .pre .0 in
+    let f = table-fits _ _ (r .below) (c .before .before .before .loop-test .taken) in let a = c .before .before .table-place .ensures in
+    let b = c .before .size-of .ensures in let g = tables-room _ _ r _ _ _ _ _ (c .before .before .before .loop-test .taken)
+    (c .before .before .before .before .loop .inv .1) in let k = c .before .before .before .before .loop .inv .1 .long in let n = r .long in
+    (omega arith, omega arith)
 
 add-k : tie.Need-add-k Inv-loop μ-loop
 add-k c = search needs
@@ -32,7 +37,13 @@ loop-less : tie.Need-loop-less Inv-loop μ-loop
 loop-less c = omega arith
 
 loop-again : tie.Need-loop-again Inv-loop μ-loop
-loop-again c = (search needs, tables-turn _ _ (search needs) _ _ _ _ _ _ _ _ _ (c .before .before .before .before .before .before .loop-test .taken) (c .before .before .before .before .before .table-place .ensures) (c .before .before .before .before .size-of .ensures) (c .before .before .save-records .ensures .0) (c .before .before .save-records .ensures .1) (c .before .before .save-records .ensures .2) (c .before .before .before .before .before .before .before .loop .inv .1))
+loop-again c = (
+  search needs,
+  tables-turn _ _ (search needs) _ _ _ _ _ _ _ _ _ (c .before .before .before .before .before .before .loop-test .taken)
+      (c .before .before .before .before .before .table-place .ensures) (c .before .before .before .before .size-of .ensures)
+      (c .before .before .save-records .ensures .0) (c .before .before .save-records .ensures .1) (c .before .before .save-records .ensures .2)
+      (c .before .before .before .before .before .before .before .loop .inv .1),
+)
 
 same-length : tie.Need-same-length Inv-loop μ-loop
 same-length c = c .before .loop .inv .1 .long

@@ -16,7 +16,9 @@ same-length : tie.Need-same-length
 same-length c = search needs
 
 returns : tie.Need-returns
-returns c = reply-done _ _ _ _ _ _ _ (search needs) (c .before .before .before .before .before .if1 .taken) (c .before .before .before .before .if2 .taken) (search needs) refl (c .before .before .command-complete .ensures)
+returns c =
+    reply-done _ _ _ _ _ _ _ (search needs) (c .before .before .before .before .before .if1 .taken) (c .before .before .before .before .if2 .taken)
+    (search needs) refl (c .before .before .command-complete .ensures)
 
 refuse-requires : tie.Need-refuse-requires
 refuse-requires c κs = search needs
@@ -25,7 +27,9 @@ same-length-2 : tie.Need-same-length-2
 same-length-2 c = search needs
 
 returns-2 : tie.Need-returns-2
-returns-2 c = reply-length _ _ _ _ _ _ _ (search needs) (c .before .before .before .before .before .if1 .taken) (c .before .before .before .before .if2 .left) (c .before .before .refuse .ensures .0) (c .before .before .refuse .ensures .1)
+returns-2 c =
+    reply-length _ _ _ _ _ _ _ (search needs) (c .before .before .before .before .before .if1 .taken) (c .before .before .before .before .if2 .left)
+    (c .before .before .refuse .ensures .0) (c .before .before .refuse .ensures .1)
 
 refuse-requires-2 : tie.Need-refuse-requires-2
 refuse-requires-2 c κs = search needs
@@ -34,7 +38,9 @@ same-length-3 : tie.Need-same-length-3
 same-length-3 c = search needs
 
 returns-3 : tie.Need-returns-3
-returns-3 c = reply-index _ _ _ _ _ _ _ (search needs) (c .before .before .before .before .if1 .left) (c .before .before .refuse2 .ensures .0) (c .before .before .refuse2 .ensures .1)
+returns-3 c =
+    reply-index _ _ _ _ _ _ _ (search needs) (c .before .before .before .before .if1 .left) (c .before .before .refuse2 .ensures .0)
+    (c .before .before .refuse2 .ensures .1)
 
 pub general-reply-spec : {M : Type 1} → statement M
 general-reply-spec =

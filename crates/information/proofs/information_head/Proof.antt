@@ -1,58 +1,65 @@
--- `information::information_head` meets its contract.
-use mathlib.Core.Path.{refl}
-use Prim.Native.Nat.{_-_}
-use Rattle.information.specs.Controller.{informationHead}
+-- `information::information_head` meets its contract: the hardware's octets are those of the layout, the rest follows them.
 use Rattle.model.specs.Octets.{le16, le32}
+use Rattle.layout.specs.Places.{hardwareHead}
+use Rattle.information.specs.Controller.{informationHead}
 use borrow.Author.Needs.{needs}
 use Rattle.information.proofs.information_head.Statement.{statement}
 use Rattle.information.proofs.information_head.Tie as tie
 
-cast-t7 : tie.Need-cast-t7
-cast-t7 c = search needs
+hardware-head-requires : tie.Need-hardware-head-requires
+hardware-head-requires c κs = search needs
 
-cast-t10 : tie.Need-cast-t10
-cast-t10 c = search needs
+array-read-t8 : tie.Need-array-read-t8
+array-read-t8 c = search needs
 
-cast-t12 : tie.Need-cast-t12
-cast-t12 c = search needs
+array-read-t11 : tie.Need-array-read-t11
+array-read-t11 c = search needs
 
-cast-t15 : tie.Need-cast-t15
-cast-t15 c = search needs
+array-read-t14 : tie.Need-array-read-t14
+array-read-t14 c = search needs
 
-cast-t18 : tie.Need-cast-t18
-cast-t18 c = search needs
+array-read-t17 : tie.Need-array-read-t17
+array-read-t17 c = search needs
 
-cast-t21 : tie.Need-cast-t21
-cast-t21 c = search needs
+array-read-t20 : tie.Need-array-read-t20
+array-read-t20 c = search needs
 
-cast-t23 : tie.Need-cast-t23
-cast-t23 c = search needs
+array-read-t23 : tie.Need-array-read-t23
+array-read-t23 c = search needs
 
-cast-t26 : tie.Need-cast-t26
-cast-t26 c = search needs
+array-read-t26 : tie.Need-array-read-t26
+array-read-t26 c = search needs
 
-cast-t29 : tie.Need-cast-t29
-cast-t29 c = search needs
+cast-t28 : tie.Need-cast-t28
+cast-t28 c = search needs
 
-cast-t32 : tie.Need-cast-t32
-cast-t32 c = search needs
+cast-t31 : tie.Need-cast-t31
+cast-t31 c = search needs
+
+cast-t34 : tie.Need-cast-t34
+cast-t34 c = search needs
+
+cast-t37 : tie.Need-cast-t37
+cast-t37 c = search needs
 
 returns : tie.Need-returns
-unfolding informationHead le16 le32
-returns c = refl
+unfolding informationHead hardwareHead le16 le32
+returns c = rw (c .hardware-head .ensures)
 
 pub information-head-spec : {M : Type 1} → statement M
 information-head-spec =
     tie.close
     (tie.spec
-    cast-t7
-    cast-t10
-    cast-t12
-    cast-t15
-    cast-t18
-    cast-t21
-    cast-t23
-    cast-t26
-    cast-t29
-    cast-t32
+    hardware-head-requires
+    array-read-t8
+    array-read-t11
+    array-read-t14
+    array-read-t17
+    array-read-t20
+    array-read-t23
+    array-read-t26
+    cast-t28
+    cast-t31
+    cast-t34
+    cast-t37
     returns)

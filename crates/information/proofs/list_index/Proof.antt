@@ -20,7 +20,9 @@ same-length : tie.Need-same-length
 same-length c = search needs
 
 returns : tie.Need-returns
-returns c = let e = sym (c .before .before .before .before .before .present .ensures) ∙ c .before .before .before .before .if1 .taken in (omega (arith, listed-two _ _ e), search needs, listed-put _ _ _ _ _ e (c .before .before .put16 .ensures))
+returns c =
+    let e = sym (c .before .before .before .before .before .present .ensures) ∙ c .before .before .before .before .if1 .taken in
+    (omega (arith, listed-two _ _ e), search needs, listed-put _ _ _ _ _ e (c .before .before .put16 .ensures))
 
 returns-2 : tie.Need-returns-2
 returns-2 c = let e = sym (c .before .present .ensures) ∙ c .if1 .left in (omega (arith, listed-zero _ _ e), search needs, listed-none _ _ _ _ e)

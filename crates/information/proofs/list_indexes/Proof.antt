@@ -28,7 +28,18 @@ same-length : tie.Need-same-length
 same-length c = search needs
 
 returns : tie.Need-returns
-returns c = let q = indexes-put _ _ _ _ _ _ _ _ _ _ _ _ (search needs) (c .before .before .before .before .before .before .before .before .before .before .before .before .before .before .before .before .before .before .list-index .ensures .0) (c .before .before .before .before .before .before .before .before .before .before .before .before .before .before .before .before .before .before .list-index .ensures .2) (c .before .before .before .before .before .before .before .before .before .before .before .before .before .before .list-index2 .ensures .0) (c .before .before .before .before .before .before .before .before .before .before .before .before .before .before .list-index2 .ensures .2) (c .before .before .before .before .before .before .before .before .before .before .list-index3 .ensures .0) (c .before .before .before .before .before .before .before .before .before .before .list-index3 .ensures .2) (c .before .before .before .before .before .before .list-index4 .ensures .0) (c .before .before .before .before .before .before .list-index4 .ensures .2) refl (c .before .before .put16 .ensures) in (q .0, search needs, q .1)
+returns c =
+    let q = indexes-put _ _ _ _ _ _ _ _ _ _ _ _ (search needs)
+    (c .before .before .before .before .before .before .before .before .before .before .before .before .before .before .before .before .before .before
+    .list-index .ensures .0)
+    (c .before .before .before .before .before .before .before .before .before .before .before .before .before .before .before .before .before .before
+    .list-index .ensures .2)
+    (c .before .before .before .before .before .before .before .before .before .before .before .before .before .before .list-index2 .ensures .0)
+    (c .before .before .before .before .before .before .before .before .before .before .before .before .before .before .list-index2 .ensures .2)
+    (c .before .before .before .before .before .before .before .before .before .before .list-index3 .ensures .0)
+    (c .before .before .before .before .before .before .before .before .before .before .list-index3 .ensures .2)
+    (c .before .before .before .before .before .before .list-index4 .ensures .0)
+    (c .before .before .before .before .before .before .list-index4 .ensures .2) refl (c .before .before .put16 .ensures) in (q .0, search needs, q .1)
 
 pub list-indexes-spec : {M : Type 1} → statement M
 list-indexes-spec =

@@ -22,7 +22,9 @@ table-place-requires : tie.Need-table-place-requires
 table-place-requires c κs = search needs
 
 or-octets-requires : tie.Need-or-octets-requires
-or-octets-requires c κs = let f = uuids-fit _ _ (c .before .before .before .before .before .before .pre .0 .below) (c .table-place .ensures) in let l = c .before .before .before .before .before .before .pre .0 .long in (omega arith, search needs)
+or-octets-requires c κs =
+    let f = uuids-fit _ _ (c .before .before .before .before .before .before .pre .0 .below) (c .table-place .ensures) in
+    let l = c .before .before .before .before .before .before .pre .0 .long in (omega arith, search needs)
 
 information-head-requires : tie.Need-information-head-requires
 information-head-requires c κs = search needs
@@ -34,7 +36,10 @@ slice-aggregate-copy-into : tie.Need-slice-aggregate-copy-into
 slice-aggregate-copy-into c = search needs
 
 copy-into-requires : tie.Need-copy-into-requires
-copy-into-requires c κs = let o : 6 ≡ length (c .before .before .before .before .before .before .before .before .hardware-at .result .publicAddress) = slice-aggregate-copy-into c in let k = c .before .before .before .before .before .before .before .before .before .before .before .before .pre .1 in omega arith
+copy-into-requires c κs =
+    let o : 6 ≡ length (c .before .before .before .before .before .before .before .before .hardware-at .result .publicAddress) =
+    slice-aggregate-copy-into c in let k = c .before .before .before .before .before .before .before .before .before .before .before .before .pre .1
+    in omega arith
 
 slice-aggregate-copy-into-2 : tie.Need-slice-aggregate-copy-into-2
 slice-aggregate-copy-into-2 c = search needs
@@ -43,13 +48,41 @@ copy-into-requires-2 : tie.Need-copy-into-requires-2
 copy-into-requires-2 c κs = search needs
 
 copy-part-requires : tie.Need-copy-part-requires
-copy-part-requires c κs = let f = name-fits _ _ (c .before .before .before .before .before .before .before .before .before .before .before .before .before .before .before .before .before .before .before .before .before .pre .0 .below) (c .before .before .before .before .before .before .before .before .before .before .before .name-place .ensures) in let l = c .before .before .before .before .before .before .before .before .before .before .before .before .before .before .before .before .before .before .before .before .before .pre .0 .long in (search needs, omega arith)
+copy-part-requires c κs =
+    let f = name-fits _ _
+    (c .before .before .before .before .before .before .before .before .before .before .before .before .before .before .before .before .before .before
+    .before .before .before .pre .0 .below)
+    (c .before .before .before .before .before .before .before .before .before .before .before .name-place .ensures) in
+    let l =
+    c .before .before .before .before .before .before .before .before .before .before .before .before .before .before .before .before .before .before
+    .before .before .before .pre .0 .long in (search needs, omega arith)
 
 same-length : tie.Need-same-length
 same-length c = search needs
 
 returns : tie.Need-returns
-returns c = information-put _ _ _ _ _ _ _ _ _ _ _ _ _ _ (c .before .before .before .before .before .before .before .before .before .before .before .before .before .before .before .before .before .before .before .before .before .before .before .before .pre .0) (c .before .before .before .before .before .before .before .before .before .before .before .before .before .before .before .before .before .before .before .before .before .before .before .before .pre .1) (c .before .before .before .before .before .before .before .before .before .before .before .before .before .before .before .before .before .before .before .before .before .settings-at .ensures) (c .before .before .before .before .before .before .before .before .before .before .before .before .before .before .before .before .before .before .before .before .hardware-at .ensures) (c .before .before .before .before .before .before .before .before .before .before .before .before .before .before .before .before .before .before .before .current-settings .ensures) (c .before .before .before .before .before .before .before .before .before .before .before .before .before .before .before .before .before .before .table-place .ensures) (c .before .before .before .before .before .before .before .before .before .before .before .before .before .before .before .before .before .or-octets .ensures) (c .before .before .before .before .before .before .before .before .before .before .before .before .before .before .before .before .information-head .ensures) refl (slice-aggregate-copy-into (c .before .before .before .before .before .before .before .before .before .before .before .before)) (c .before .before .before .before .before .before .before .before .before .before .before .before .before .before .name-place .ensures) (c .before .before .before .before .before .before .before .before .before .before .before .copy-into .ensures) (c .before .before .before .before .before .before .copy-into2 .ensures) (c .before .before .copy-part .ensures)
+returns c =
+    information-put _ _ _ _ _ _ _ _ _ _ _ _ _ _
+    (c .before .before .before .before .before .before .before .before .before .before .before .before .before .before .before .before .before .before
+    .before .before .before .before .before .before .pre .0)
+    (c .before .before .before .before .before .before .before .before .before .before .before .before .before .before .before .before .before .before
+    .before .before .before .before .before .before .pre .1)
+    (c .before .before .before .before .before .before .before .before .before .before .before .before .before .before .before .before .before .before
+    .before .before .before .settings-at .ensures)
+    (c .before .before .before .before .before .before .before .before .before .before .before .before .before .before .before .before .before .before
+    .before .before .hardware-at .ensures)
+    (c .before .before .before .before .before .before .before .before .before .before .before .before .before .before .before .before .before .before
+    .before .current-settings .ensures)
+    (c .before .before .before .before .before .before .before .before .before .before .before .before .before .before .before .before .before .before
+    .table-place .ensures)
+    (c .before .before .before .before .before .before .before .before .before .before .before .before .before .before .before .before .before
+    .or-octets .ensures)
+    (c .before .before .before .before .before .before .before .before .before .before .before .before .before .before .before .before
+    .information-head .ensures) refl (slice-aggregate-copy-into
+    (c .before .before .before .before .before .before .before .before .before .before .before .before))
+    (c .before .before .before .before .before .before .before .before .before .before .before .before .before .before .name-place .ensures)
+    (c .before .before .before .before .before .before .before .before .before .before .before .copy-into .ensures)
+    (c .before .before .before .before .before .before .copy-into2 .ensures) (c .before .before .copy-part .ensures)
 
 pub put-information-spec : {M : Type 1} → statement M
 put-information-spec =

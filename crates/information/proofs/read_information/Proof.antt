@@ -13,7 +13,9 @@ same-length : tie.Need-same-length
 same-length c = search needs
 
 returns : tie.Need-returns
-returns c = information-length _ _ _ _ _ _ (search needs) (search needs) (c .before .before .before .before .if1 .taken) (c .before .before .refuse .ensures .0) (c .before .before .refuse .ensures .1)
+returns c =
+    information-length _ _ _ _ _ _ (search needs) (search needs) (c .before .before .before .before .if1 .taken)
+    (c .before .before .refuse .ensures .0) (c .before .before .refuse .ensures .1)
 
 slice-aggregate-put-information : tie.Need-slice-aggregate-put-information
 slice-aggregate-put-information c = search needs
@@ -31,7 +33,10 @@ same-length-2 : tie.Need-same-length-2
 same-length-2 c = search needs
 
 returns-2 : tie.Need-returns-2
-returns-2 c = information-done _ _ _ _ _ _ (search needs) (search needs) (c .before .before .before .before .before .before .before .before .if1 .left) _ (sym (c .before .before .before .before .before .before .put-information .kept .1 .1 .0)) (c .before .before .before .before .before .before .put-information .ensures) refl (c .before .before .command-complete .ensures)
+returns-2 c =
+    information-done _ _ _ _ _ _ (search needs) (search needs) (c .before .before .before .before .before .before .before .before .if1 .left) _
+    (sym (c .before .before .before .before .before .before .put-information .kept .1 .1 .0))
+    (c .before .before .before .before .before .before .put-information .ensures) refl (c .before .before .command-complete .ensures)
 
 pub read-information-spec : {M : Type 1} → statement M
 read-information-spec =

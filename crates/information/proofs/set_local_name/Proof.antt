@@ -14,7 +14,9 @@ same-length : tie.Need-same-length
 same-length c = search needs
 
 returns : tie.Need-returns
-returns c = name-length _ _ _ _ _ _ (search needs) (search needs) (c .before .before .before .before .if1 .taken) (c .before .before .refuse .ensures .0) (c .before .before .refuse .ensures .1)
+returns c =
+    name-length _ _ _ _ _ _ (search needs) (search needs) (c .before .before .before .before .if1 .taken) (c .before .before .refuse .ensures .0)
+    (c .before .before .refuse .ensures .1)
 
 shared-slice-read-if2 : tie.Need-shared-slice-read-if2
 shared-slice-read-if2 c = search needs
@@ -26,7 +28,9 @@ same-length-2 : tie.Need-same-length-2
 same-length-2 c = search needs
 
 returns-2 : tie.Need-returns-2
-returns-2 c = name-open _ _ _ _ _ _ (search needs) (search needs) (c .before .before .before .before .before .before .if1 .left) (c .before .before .before .before .if2 .taken) (c .before .before .refuse2 .ensures .0) (c .before .before .refuse2 .ensures .1)
+returns-2 c =
+    name-open _ _ _ _ _ _ (search needs) (search needs) (c .before .before .before .before .before .before .if1 .left)
+    (c .before .before .before .before .if2 .taken) (c .before .before .refuse2 .ensures .0) (c .before .before .refuse2 .ensures .1)
 
 shared-slice-read-if3 : tie.Need-shared-slice-read-if3
 shared-slice-read-if3 c = search needs
@@ -38,13 +42,19 @@ same-length-3 : tie.Need-same-length-3
 same-length-3 c = search needs
 
 returns-3 : tie.Need-returns-3
-returns-3 c = short-open _ _ _ _ _ _ (search needs) (search needs) (c .before .before .before .before .before .before .before .before .if1 .left) (c .before .before .before .before .before .before .if2 .left) (c .before .before .before .before .if3 .taken) (c .before .before .refuse3 .ensures .0) (c .before .before .refuse3 .ensures .1)
+returns-3 c =
+    short-open _ _ _ _ _ _ (search needs) (search needs) (c .before .before .before .before .before .before .before .before .if1 .left)
+    (c .before .before .before .before .before .before .if2 .left) (c .before .before .before .before .if3 .taken)
+    (c .before .before .refuse3 .ensures .0) (c .before .before .refuse3 .ensures .1)
 
 name-place-requires : tie.Need-name-place-requires
 name-place-requires c κs = search needs
 
 same-part-requires : tie.Need-same-part-requires
-same-part-requires c κs = let f = name-fits _ _ (c .before .before .before .before .before .before .before .before .before .before .pre .0 .below) (c .before .name-place .ensures) in let l = c .before .before .before .before .before .before .before .before .before .before .pre .0 .long in let n = c .before .before .before .before .before .before .if1 .left in (omega arith, omega arith)
+same-part-requires c κs =
+    let f = name-fits _ _ (c .before .before .before .before .before .before .before .before .before .before .pre .0 .below)
+    (c .before .name-place .ensures) in let l = c .before .before .before .before .before .before .before .before .before .before .pre .0 .long in
+    let n = c .before .before .before .before .before .before .if1 .left in (omega arith, omega arith)
 
 put-name-requires : tie.Need-put-name-requires
 put-name-requires c κs = search needs
@@ -59,7 +69,15 @@ same-length-5 : tie.Need-same-length-5
 same-length-5 c = search needs
 
 returns-4 : tie.Need-returns-4
-returns-4 c = name-kept _ _ _ _ _ _ (search needs) (search needs) (c .before .before .before .before .before .before .before .before .before .before .before .before .before .before .before .before .if1 .left) (c .before .before .before .before .before .before .before .before .before .before .before .before .before .before .if2 .left) (c .before .before .before .before .before .before .before .before .before .before .before .before .if3 .left) _ (c .before .before .before .before .before .before .before .before .before .before .before .name-place .ensures) _ (c .before .before .before .before .before .before .before .before .before .same-part .ensures) _ (c .before .before .before .before .before .before .before .put-name .ensures) (c .if4 .taken) refl (c .before .before .before .command-complete .ensures)
+returns-4 c =
+    name-kept _ _ _ _ _ _ (search needs) (search needs)
+    (c .before .before .before .before .before .before .before .before .before .before .before .before .before .before .before .before .if1 .left)
+    (c .before .before .before .before .before .before .before .before .before .before .before .before .before .before .if2 .left)
+    (c .before .before .before .before .before .before .before .before .before .before .before .before .if3 .left) _
+    (c .before .before .before .before .before .before .before .before .before .before .before .name-place .ensures) _
+    (c .before .before .before .before .before .before .before .before .before .same-part .ensures) _
+    (c .before .before .before .before .before .before .before .put-name .ensures) (c .if4 .taken) refl
+    (c .before .before .before .command-complete .ensures)
 
 event-requires : tie.Need-event-requires
 event-requires c κs = search needs
@@ -71,7 +89,18 @@ same-length-7 : tie.Need-same-length-7
 same-length-7 c = search needs
 
 returns-5 : tie.Need-returns-5
-returns-5 c = name-new _ _ _ _ _ _ (search needs) (search needs) (c .before .before .before .before .before .before .before .before .before .before .before .before .before .before .before .before .before .before .before .before .if1 .left) (c .before .before .before .before .before .before .before .before .before .before .before .before .before .before .before .before .before .before .if2 .left) (c .before .before .before .before .before .before .before .before .before .before .before .before .before .before .before .before .if3 .left) _ (c .before .before .before .before .before .before .before .before .before .before .before .before .before .before .before .name-place .ensures) _ (c .before .before .before .before .before .before .before .before .before .before .before .before .before .same-part .ensures) _ (c .before .before .before .before .before .before .before .before .before .before .before .put-name .ensures) (c .before .before .before .before .if4 .left) _ (c .before .before .before .before .before .before .before .command-complete .ensures) (c .before .before .event .ensures) refl
+returns-5 c =
+    name-new _ _ _ _ _ _ (search needs) (search needs)
+    (c .before .before .before .before .before .before .before .before .before .before .before .before .before .before .before .before .before .before
+    .before .before .if1 .left)
+    (c .before .before .before .before .before .before .before .before .before .before .before .before .before .before .before .before .before .before
+    .if2 .left)
+    (c .before .before .before .before .before .before .before .before .before .before .before .before .before .before .before .before .if3 .left) _
+    (c .before .before .before .before .before .before .before .before .before .before .before .before .before .before .before .name-place .ensures) _
+    (c .before .before .before .before .before .before .before .before .before .before .before .before .before .same-part .ensures) _
+    (c .before .before .before .before .before .before .before .before .before .before .before .put-name .ensures)
+    (c .before .before .before .before .if4 .left) _ (c .before .before .before .before .before .before .before .command-complete .ensures)
+    (c .before .before .event .ensures) refl
 
 pub set-local-name-spec : {M : Type 1} → statement M
 set-local-name-spec =

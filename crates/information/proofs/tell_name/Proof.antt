@@ -3,7 +3,7 @@ use mathlib.Core.Path.{sym, _∙_}
 use Prim.Native.Nat.{_-_}
 use borrow.Author.Needs.{needs}
 use Rattle.model.specs.Proof.Demand3.{state-long}
-use Rattle.layout.specs.Places.{present-below}
+use Rattle.layout.proofs.Reading.{present-below}
 use Rattle.information.proofs.Name.{told-absent, told-neither, told-used}
 use Rattle.information.proofs.tell_name.Statement.{statement}
 use Rattle.information.proofs.tell_name.Tie as tie

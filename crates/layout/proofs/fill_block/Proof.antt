@@ -15,8 +15,8 @@ block-place-requires c κs = search needs
 hardware-head-requires : tie.Need-hardware-head-requires
 hardware-head-requires c κs = search needs
 
-one-if-requires : tie.Need-one-if-requires
-one-if-requires c κs = search needs
+flag-octet-requires : tie.Need-flag-octet-requires
+flag-octet-requires c κs = search needs
 
 put8-requires : tie.Need-put8-requires
 put8-requires c κs = omega (arith, state-long _ (c .before .before .before .before .before .before .before .pre .0))
@@ -28,7 +28,8 @@ slice-aggregate-copy-into : tie.Need-slice-aggregate-copy-into
 slice-aggregate-copy-into c = search needs
 
 copy-into-requires : tie.Need-copy-into-requires
-copy-into-requires c κs = omega (arith, state-long _ (c .before .before .before .before .before .before .before .before .before .before .before .before .pre .0))
+copy-into-requires c κs =
+    omega (arith, state-long _ (c .before .before .before .before .before .before .before .before .before .before .before .before .pre .0))
 
 add-copy-into-2 : tie.Need-add-copy-into-2
 add-copy-into-2 c = search needs
@@ -37,20 +38,34 @@ slice-aggregate-copy-into-2 : tie.Need-slice-aggregate-copy-into-2
 slice-aggregate-copy-into-2 c = search needs
 
 copy-into-requires-2 : tie.Need-copy-into-requires-2
-copy-into-requires-2 c κs = omega (arith, state-long _ (c .before .before .before .before .before .before .before .before .before .before .before .before .before .before .before .before .before .pre .0))
+copy-into-requires-2 c κs =
+    omega (
+      arith,
+      state-long _
+          (c .before .before .before .before .before .before .before .before .before .before .before .before .before .before .before .before .before .pre .0),
+    )
 
 add-put8 : tie.Need-add-put8
 add-put8 c = search needs
 
 put8-requires-2 : tie.Need-put8-requires-2
-put8-requires-2 c κs = omega (arith, state-long _ (c .before .before .before .before .before .before .before .before .before .before .before .before .before .before .before .before .before .before .before .before .before .pre .0))
+put8-requires-2 c κs =
+    omega (
+      arith,
+      state-long _
+          (c .before .before .before .before .before .before .before .before .before .before .before .before .before .before .before .before .before
+          .before .before .before .before .pre .0),
+    )
 
 same-length : tie.Need-same-length
 same-length c = search needs
 
 returns : tie.Need-returns
 unfolding leSupported bit
-returns c = let p = c .before .before .before .before .before .before .before .before .before .before .before .before .before .before .before .before .before .before .before .before .before .before .before .before .pre in (cc) ∙ block-filled _ _ _ (p .0) (p .1) (p .2) (p .3)
+returns c =
+    let p =
+    c .before .before .before .before .before .before .before .before .before .before .before .before .before .before .before .before .before .before
+    .before .before .before .before .before .before .pre in (cc) ∙ block-filled _ _ _ (p .0) (p .1) (p .2) (p .3)
 
 pub fill-block-spec : {M : Type 1} → statement M
 fill-block-spec =
@@ -58,7 +73,7 @@ fill-block-spec =
     (tie.spec
     block-place-requires
     hardware-head-requires
-    one-if-requires
+    flag-octet-requires
     put8-requires
     add-copy-into
     slice-aggregate-copy-into

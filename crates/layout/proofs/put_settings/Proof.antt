@@ -29,7 +29,11 @@ slice-aggregate-copy-into-2 : tie.Need-slice-aggregate-copy-into-2
 slice-aggregate-copy-into-2 c = search needs
 
 copy-into-requires-2 : tie.Need-copy-into-requires-2
-copy-into-requires-2 c κs = let k = c .before .before .before .before .copy-into .kept .0 in let o : 6 ≡ length (c .before .before .before .before .before .before .before .before .before .before .before .before .args .m .radio .staticAddress) = slice-aggregate-copy-into-2 c in omega arith
+copy-into-requires-2 c κs =
+    let k = c .before .before .before .before .copy-into .kept .0 in
+    let o : 6 ≡ length
+    (c .before .before .before .before .before .before .before .before .before .before .before .before .args .m .radio .staticAddress) =
+    slice-aggregate-copy-into-2 c in omega arith
 
 same-length : tie.Need-same-length
 same-length c = search needs

@@ -5,20 +5,20 @@ use borrow.Author.Needs.{needs}
 use Rattle.layout.proofs.settings_head.Statement.{statement}
 use Rattle.layout.proofs.settings_head.Tie as tie
 
-one-if-requires : tie.Need-one-if-requires
-one-if-requires c κs = search needs
+flag-octet-requires : tie.Need-flag-octet-requires
+flag-octet-requires c κs = search needs
 
-one-if-requires-2 : tie.Need-one-if-requires-2
-one-if-requires-2 c κs = search needs
+flag-octet-requires-2 : tie.Need-flag-octet-requires-2
+flag-octet-requires-2 c κs = search needs
 
-one-if-requires-3 : tie.Need-one-if-requires-3
-one-if-requires-3 c κs = search needs
+flag-octet-requires-3 : tie.Need-flag-octet-requires-3
+flag-octet-requires-3 c κs = search needs
 
-one-if-requires-4 : tie.Need-one-if-requires-4
-one-if-requires-4 c κs = search needs
+flag-octet-requires-4 : tie.Need-flag-octet-requires-4
+flag-octet-requires-4 c κs = search needs
 
-one-if-requires-5 : tie.Need-one-if-requires-5
-one-if-requires-5 c κs = search needs
+flag-octet-requires-5 : tie.Need-flag-octet-requires-5
+flag-octet-requires-5 c κs = search needs
 
 cast-t12 : tie.Need-cast-t12
 cast-t12 c = search needs
@@ -34,11 +34,11 @@ pub settings-head-spec : {M : Type 1} → statement M
 settings-head-spec =
     tie.close
     (tie.spec
-    one-if-requires
-    one-if-requires-2
-    one-if-requires-3
-    one-if-requires-4
-    one-if-requires-5
+    flag-octet-requires
+    flag-octet-requires-2
+    flag-octet-requires-3
+    flag-octet-requires-4
+    flag-octet-requires-5
     cast-t12
     cast-t15
     returns)

@@ -65,26 +65,27 @@ name-short which n e =
 -- 2. What is told -----------------------------------------------------------------------------------------------------------------------------
 
 -- at an index: nothing, or a used part
-module _ (P : Octets → Type 0) (nothing : P [])
+module _ (P : Octets → Type 0) (noReason : P [])
     (used : (which : ℕ) (c : Controller) → controllerOk c ≡ true → P (usedPart (namePart which (c .host .name)))) where
   -- by what stands at the index
   out-holds : (p : PlainHub) (which : ℕ) (x : Option Controller) → ((c : Controller) → x ≡ some c → controllerOk c ≡ true) → P (octetsOf (nameOut p which x))
   unfolding nameOut octetsOf
-  out-holds p which none f = nothing
-  out-holds p which (some c) f = either {A = Outcome} (λ o. P (octetsOf o)) (ltb which 2) (λ _. used which c (f c refl)) (λ _. nothing)
+  out-holds p which none f = noReason
+  out-holds p which (some c) f = either {A = Outcome} (λ o. P (octetsOf o)) (ltb which 2) (λ _. used which c (f c refl)) (λ _. noReason)
 
   -- with the room looked at
   hub-holds : (p : PlainHub) (i which room : ℕ) → plainOk p ≡ true → P (octetsOf (within Lengths.replyBuffer room (nameOut p which (controllerAt p i))))
   unfolding within octetsOf
   hub-holds p i which room e =
-      either {A = Outcome} (λ o. P (octetsOf o)) (ltb room Lengths.replyBuffer) (λ _. nothing) (λ _. out-holds p which (controllerAt p i) (λ c x. controller-ok p i c e x))
+      either {A = Outcome} (λ o. P (octetsOf o)) (ltb room Lengths.replyBuffer) (λ _. noReason)
+      (λ _. out-holds p which (controllerAt p i) (λ c x. controller-ok p i c e x))
 
   -- over the lent octets
   pub name-holds : (s : Octets) (i which room : ℕ) → P (hubName s i which room .octets)
   unfolding hubName laidOut keep badState
   name-holds s i which room =
       either {A = Result Octets} (λ r. P (r .octets)) (stateOk s)
-      (λ t. hub-holds (decode s .plain) i which room (well-fit (decode s) (state-well s t) .plain)) (λ _. nothing)
+      (λ t. hub-holds (decode s .plain) i which room (well-fit (decode s) (state-well s t) .plain)) (λ _. noReason)
 
 -- AT MOST 248 OCTETS ARE TOLD, whatever the lent octets hold
 pub name-most : (s : Octets) (i which room : ℕ) → length (hubName s i which room .octets) ≤ 248

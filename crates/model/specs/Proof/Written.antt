@@ -27,7 +27,7 @@ use Rattle.model.specs.Image.{image, load}
 use Rattle.model.specs.Layout.{decode}
 use Rattle.model.specs.Meanings.{badState, hubLoad, laidOut, loadMeaning, loadedInto, meaning, stateOk}
 use Rattle.model.specs.Written.{OneReply, Written, addressCommand, because, busy, byCommandComplete, byCommandStatus, ofCommand}
-use Rattle.model.specs.Written as W
+use Rattle.model.specs.Written as WrittenCase
 use Rattle.model.specs.Proof.Tests.{and-true, either, equal}
 
 -- 1. How a refusal is written -------------------------------------------------------------------------------------------------------------------
@@ -51,17 +51,17 @@ Formed c badArgument = Unit
 -- a refusal of such a form is one status reply
 form-written : (c : Call) (f : RefusalForm) (r : Reason) → FormOf c f → Written c 2 (refusalOctets (f .index) (f .code) (f .address) (statusOf r))
 unfolding refusalOctets byStatus refusalForm
-form-written c f r plain = W.refused (byCommandStatus (because r))
-form-written c f r (addressed a) = W.refused (byCommandComplete a (because r))
+form-written c f r plain = WrittenCase.refused (byCommandStatus (because r))
+form-written c f r (addressed a) = WrittenCase.refused (byCommandComplete a (because r))
 
 -- so what such an outcome writes is as its answer says
 pub outcome-written : (c : Call) (o : Outcome) → Formed c o → Written c (answerOf o) (octetsOf o)
 unfolding Formed answerOf octetsOf
-outcome-written c (finished o p) f = W.done
+outcome-written c (finished o p) f = WrittenCase.done
 outcome-written c (refused g r) f = form-written c g r f
 outcome-written c badPacket f = f
-outcome-written c noRoom f = W.smallBuffer
-outcome-written c badArgument f = W.badArgument
+outcome-written c noRoom f = WrittenCase.smallBuffer
+outcome-written c badArgument f = WrittenCase.badArgument
 
 -- 2. Commands -----------------------------------------------------------------------------------------------------------------------------------
 
@@ -160,15 +160,15 @@ module _ (room : ℕ) (packet : Octets) where
   verdict-formed p =
       either {A = Verdict} (λ v. Formed (command room packet) (outcome v)) (ltb room Lengths.replyBuffer) (λ _. tt)
       (λ _. either {A = Verdict} (λ v. Formed (command room packet) (outcome v)) (packetOk packet)
-      (λ _. rule-formed p (rule (codeOf packet)) refl) (λ _. W.badPacket))
+      (λ _. rule-formed p (rule (codeOf packet)) refl) (λ _. WrittenCase.badPacket))
 
   -- Busy, started, or done at once
   busy-written : (h : Hub) (o : Outcome) (w : Bool) (x : Option OpenCommand) → Formed (command room packet) o
       → Written (command room packet) (busyOr h (indexOf packet) (codeOf packet) (paramsOf packet) o w x .answer)
       (busyOr h (indexOf packet) (codeOf packet) (paramsOf packet) o w x .octets)
   unfolding busyOr keep
-  busy-written h o w (some x) f = W.refused (byCommandStatus busy)
-  busy-written h o true none f = W.started
+  busy-written h o w (some x) f = WrittenCase.refused (byCommandStatus busy)
+  busy-written h o true none f = WrittenCase.started
   busy-written h o false none f = outcome-written (command room packet) o f
 
   -- a command to our hub
@@ -200,7 +200,7 @@ plug-formed c p i f none = either {A = Outcome} (λ x. Formed c x) (ltb i 4 && h
 -- an unplug, with the reply owed to a command that it cuts off
 unplug-written : (c : Call) (h : Hub) (i : ℕ) (o : Outcome) → Formed c o → Written c (unplugged h i o .answer) (unplugged h i o .octets)
 unfolding unplugged keep
-unplug-written c h i (finished o p) f = W.done
+unplug-written c h i (finished o p) f = WrittenCase.done
 unplug-written c h i (refused g r) f = outcome-written c (refused g r) f
 unplug-written c h i badPacket f = outcome-written c badPacket f
 unplug-written c h i noRoom f = outcome-written c noRoom f
@@ -224,7 +224,7 @@ finish-formed c p i o (some (radio r)) (some d) = tt
 -- a wrong argument
 bad-written : (c : Call) → Written c (answerOf badArgument) (octetsOf badArgument)
 unfolding answerOf octetsOf
-bad-written c = W.badArgument
+bad-written c = WrittenCase.badArgument
 
 -- a report
 report-written : (c : Call) (h : Hub) (i s : ℕ) (x : Option OpenCommand) → Written c (reportOut h i s x .answer) (reportOut h i s x .octets)
@@ -233,7 +233,7 @@ report-written c h i s none = bad-written c
 report-written c h i s (some o) =
     either {A = Result Hub} (λ r. Written c (r .answer) (r .octets)) (ltb Statuses.highest s) (λ _. bad-written c)
     (λ _. either {A = Result Hub} (λ r. Written c (r .answer) (r .octets)) (eqb s 0)
-    (λ _. outcome-written c (finish (h .plain) i o) (finish-formed c (h .plain) i o (rule (o .code)) (controllerAt (h .plain) i))) (λ _. W.done))
+    (λ _. outcome-written c (finish (h .plain) i o) (finish-formed c (h .plain) i o (rule (o .code)) (controllerAt (h .plain) i))) (λ _. WrittenCase.done))
 
 -- 4. Every call -----------------------------------------------------------------------------------------------------------------------------------
 
@@ -243,7 +243,7 @@ unfolding call callPlain keep Formed answerOf octetsOf
 call-written h (command room packet) =
     command-written room packet h (verdict (h .plain) room packet) (underWay h (indexOf packet)) (verdict-formed room packet (h .plain))
 call-written h (report room i s) =
-    either {A = Result Hub} (λ r. Written (report room i s) (r .answer) (r .octets)) (ltb room Lengths.replyBuffer) (λ _. W.smallBuffer)
+    either {A = Result Hub} (λ r. Written (report room i s) (r .answer) (r .octets)) (ltb room Lengths.replyBuffer) (λ _. WrittenCase.smallBuffer)
     (λ _. report-written (report room i s) h i s (underWay h i))
 call-written h (clock room reading) =
     let o = clockOut (h .plain) reading in
@@ -266,39 +266,39 @@ call-written h (save room) =
 -- EVERY CALL WRITES WHAT ITS ANSWER LETS IT WRITE, whatever the lent octets hold
 pub state-written : (s : Octets) (c : Call) → Written c (meaning s c .answer) (meaning s c .octets)
 unfolding meaning laidOut badState
-state-written s c = either {A = Result Octets} (λ r. Written c (r .answer) (r .octets)) (stateOk s) (λ _. call-written (decode s) c) (λ _. W.badState)
+state-written s c = either {A = Result Octets} (λ r. Written c (r .answer) (r .octets)) (stateOk s) (λ _. call-written (decode s) c) (λ _. WrittenCase.badState)
 
 -- 5. What follows for each number ---------------------------------------------------------------------------------------------------------------
 
 -- neither done nor refused: nothing is written
 pub silent : (c : Call) (n : ℕ) (o : Octets) → Written c n o → (n ≡ 0 → ⊥) → (n ≡ 2 → ⊥) → o ≡ []
-silent c n o W.done a b = absurd (a refl)
-silent c n o W.started a b = refl
-silent c n o (W.refused r) a b = absurd (b refl)
-silent c n o W.badPacket a b = refl
-silent c n o W.smallBuffer a b = refl
-silent c n o W.badState a b = refl
-silent c n o W.badArgument a b = refl
+silent c n o WrittenCase.done a b = absurd (a refl)
+silent c n o WrittenCase.started a b = refl
+silent c n o (WrittenCase.refused r) a b = absurd (b refl)
+silent c n o WrittenCase.badPacket a b = refl
+silent c n o WrittenCase.smallBuffer a b = refl
+silent c n o WrittenCase.badState a b = refl
+silent c n o WrittenCase.badArgument a b = refl
 
 -- refused: one status reply
 pub one-reply : (c : Call) (n : ℕ) (o : Octets) → Written c n o → n ≡ 2 → OneReply c o
-one-reply c n o W.done e = absurd (omega arith)
-one-reply c n o W.started e = absurd (omega arith)
-one-reply c n o (W.refused r) e = ofCommand r
-one-reply c n o W.badPacket e = absurd (omega arith)
-one-reply c n o W.smallBuffer e = absurd (omega arith)
-one-reply c n o W.badState e = absurd (omega arith)
-one-reply c n o W.badArgument e = absurd (omega arith)
+one-reply c n o WrittenCase.done e = absurd (omega arith)
+one-reply c n o WrittenCase.started e = absurd (omega arith)
+one-reply c n o (WrittenCase.refused r) e = ofCommand r
+one-reply c n o WrittenCase.badPacket e = absurd (omega arith)
+one-reply c n o WrittenCase.smallBuffer e = absurd (omega arith)
+one-reply c n o WrittenCase.badState e = absurd (omega arith)
+one-reply c n o WrittenCase.badArgument e = absurd (omega arith)
 
 -- the number is one of 0 to 7
 pub to-seven : (c : Call) (n : ℕ) (o : Octets) → Written c n o → n ≤ 7
-to-seven c n o W.done = omega arith
-to-seven c n o W.started = omega arith
-to-seven c n o (W.refused r) = omega arith
-to-seven c n o W.badPacket = omega arith
-to-seven c n o W.smallBuffer = omega arith
-to-seven c n o W.badState = omega arith
-to-seven c n o W.badArgument = omega arith
+to-seven c n o WrittenCase.done = omega arith
+to-seven c n o WrittenCase.started = omega arith
+to-seven c n o (WrittenCase.refused r) = omega arith
+to-seven c n o WrittenCase.badPacket = omega arith
+to-seven c n o WrittenCase.smallBuffer = omega arith
+to-seven c n o WrittenCase.badState = omega arith
+to-seven c n o WrittenCase.badArgument = omega arith
 
 -- a load, by what it read
 load-written-by : (s : Octets) (x : Option PlainHub) → (loadedInto s x .answer ≤ 7) × (loadedInto s x .octets ≡ [])

@@ -28,13 +28,28 @@ tables-end-requires : tie.Need-tables-end-requires
 tables-end-requires c κs = search needs
 
 returns-2 : tie.Need-returns-2
-returns-2 c = (search needs, controller-last _ _ (c .before .before .before .before .before .before .before .before .if1 .left) _ (c .before .before .before .before .before .before .before .settings-in .ensures) (sym (c .before .before .before .before .radio-ok .ensures) ∙ c .before .before .before .if2 .taken) (sym (c .before .before .fixed-ok .ensures) ∙ c .before .if3 .taken) _ (c .tables-end .ensures .1))
+returns-2 c = (
+  search needs,
+  controller-last _ _ (c .before .before .before .before .before .before .before .before .if1 .left) _
+      (c .before .before .before .before .before .before .before .settings-in .ensures)
+      (sym (c .before .before .before .before .radio-ok .ensures) ∙ c .before .before .before .if2 .taken)
+      (sym (c .before .before .fixed-ok .ensures) ∙ c .before .if3 .taken) _ (c .tables-end .ensures .1),
+)
 
 returns-3 : tie.Need-returns-3
-returns-3 c = (search needs, controller-fixed _ _ (c .before .before .before .before .before .before .before .if1 .left) _ (c .before .before .before .before .before .before .settings-in .ensures) (sym (c .before .before .before .radio-ok .ensures) ∙ c .before .before .if2 .taken) (sym (c .before .fixed-ok .ensures) ∙ c .if3 .left))
+returns-3 c = (
+  search needs,
+  controller-fixed _ _ (c .before .before .before .before .before .before .before .if1 .left) _
+      (c .before .before .before .before .before .before .settings-in .ensures)
+      (sym (c .before .before .before .radio-ok .ensures) ∙ c .before .before .if2 .taken) (sym (c .before .fixed-ok .ensures) ∙ c .if3 .left),
+)
 
 returns-4 : tie.Need-returns-4
-returns-4 c = (search needs, controller-radio _ _ (c .before .before .before .before .before .if1 .left) _ (c .before .before .before .before .settings-in .ensures) (sym (c .before .radio-ok .ensures) ∙ c .if2 .left))
+returns-4 c = (
+  search needs,
+  controller-radio _ _ (c .before .before .before .before .before .if1 .left) _
+      (c .before .before .before .before .settings-in .ensures) (sym (c .before .radio-ok .ensures) ∙ c .if2 .left),
+)
 
 pub controller-ends-spec : {M : Type 1} → statement M
 controller-ends-spec =

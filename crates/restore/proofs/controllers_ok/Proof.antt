@@ -28,10 +28,14 @@ shared-slice-read-index : tie.Need-shared-slice-read-index Inv-loop μ-loop
 shared-slice-read-index c = search needs
 
 returns-2 : tie.Need-returns-2 Inv-loop μ-loop
-returns-2 c = scan-low _ _ _ _ _ (c .before .before .before .loop-test .taken) (c .before .before .before .before .loop .inv .1) (c .before .before .if1 .left) (c .if2 .taken)
+returns-2 c =
+    scan-low _ _ _ _ _ (c .before .before .before .loop-test .taken) (c .before .before .before .before .loop .inv .1) (c .before .before .if1 .left)
+    (c .if2 .taken)
 
 returns-3 : tie.Need-returns-3 Inv-loop μ-loop
-returns-3 c = scan-high _ _ _ _ _ (c .before .before .before .before .loop-test .taken) (c .before .before .before .before .before .loop .inv .1) (c .before .before .before .if1 .left) (c .before .if2 .left) (c .if3 .taken)
+returns-3 c =
+    scan-high _ _ _ _ _ (c .before .before .before .before .loop-test .taken) (c .before .before .before .before .before .loop .inv .1)
+    (c .before .before .before .if1 .left) (c .before .if2 .left) (c .if3 .taken)
 
 add-controller-ends : tie.Need-add-controller-ends Inv-loop μ-loop
 add-controller-ends c = search needs
@@ -40,7 +44,10 @@ controller-ends-requires : tie.Need-controller-ends-requires Inv-loop μ-loop
 controller-ends-requires c κs = search needs
 
 returns-4 : tie.Need-returns-4 Inv-loop μ-loop
-returns-4 c = scan-bad _ _ _ _ _ (c .before .before .before .before .before .before .loop-test .taken) (c .before .before .before .before .before .before .before .loop .inv .1) (c .before .before .before .before .before .if1 .left) (c .before .before .before .if2 .left) (c .before .before .if3 .left) _ (c .before .controller-ends .ensures .1) (c .if4 .taken)
+returns-4 c =
+    scan-bad _ _ _ _ _ (c .before .before .before .before .before .before .loop-test .taken)
+    (c .before .before .before .before .before .before .before .loop .inv .1) (c .before .before .before .before .before .if1 .left)
+    (c .before .before .before .if2 .left) (c .before .before .if3 .left) _ (c .before .controller-ends .ensures .1) (c .if4 .taken)
 
 add-low : tie.Need-add-low Inv-loop μ-loop
 add-low c = search needs
@@ -52,7 +59,12 @@ loop-less : tie.Need-loop-less Inv-loop μ-loop
 loop-less c = omega arith
 
 loop-again : tie.Need-loop-again Inv-loop μ-loop
-loop-again c = (c .before .controller-ends .ensures .0, scan-turn _ _ _ _ _ (c .before .before .before .before .before .before .loop-test .taken) (c .before .before .before .before .before .before .before .loop .inv .1) (c .before .before .before .before .before .if1 .left) (c .before .before .before .if2 .left) (c .before .before .if3 .left) _ (c .before .controller-ends .ensures .1) (c .if4 .left))
+loop-again c = (
+  c .before .controller-ends .ensures .0,
+  scan-turn _ _ _ _ _ (c .before .before .before .before .before .before .loop-test .taken)
+      (c .before .before .before .before .before .before .before .loop .inv .1) (c .before .before .before .before .before .if1 .left)
+      (c .before .before .before .if2 .left) (c .before .before .if3 .left) _ (c .before .controller-ends .ensures .1) (c .if4 .left),
+)
 
 returns-5 : tie.Need-returns-5 Inv-loop μ-loop
 returns-5 c = scan-all _ _ _ _ _ (c .before .loop-test .left) (c .before .before .loop .inv .1) (c .if5 .taken)

@@ -4,6 +4,7 @@ use Prim.Native.Nat.{_-_}
 use native.Mathlib.Omega.{arith}
 use lib.ListN.{length}
 use mathlib.Core.Bool.{true}
+use Rattle.model.specs.Lengths as Lengths
 use Rattle.model.specs.Octets.{bytes}
 use Rattle.layout.proofs.Filled.{state-cleared}
 use Rattle.restore.proofs.Loading.{Loads, image-long, loads-first, loads-last, loads-ready, loads-turn}
@@ -13,7 +14,7 @@ use Rattle.restore.proofs.fill.Tie as tie
 use Rattle.model.specs.Proof.Tables.{slice-bytes}
 
 abbrev Inv-loop : tie.InvT-loop
-Inv-loop state₀ image left₀ at₀ state left at = (length state ≡ 16116) × Loads image state left at
+Inv-loop state₀ image left₀ at₀ state left at = (length state ≡ Lengths.state) × Loads image state left at
 
 abbrev μ-loop : tie.MeasureT-loop
 μ-loop state₀ image left₀ at₀ state left at = left
@@ -29,19 +30,37 @@ shared-slice-read-left : tie.Need-shared-slice-read-left Inv-loop μ-loop
 shared-slice-read-left c = let g = image-long _ (c .before .before .before .before .before .before .before .pre .1) in omega arith
 
 loop-holds : tie.Need-loop-holds Inv-loop μ-loop
-loop-holds c = (search needs, loads-first _ _ (c .before .before .before .zero-fill .ensures ∙ state-cleared _ _ (c .before .before .before .before .before .before .before .pre .0) refl))
+loop-holds c = (
+  search needs,
+  loads-first _ _ (c .before .before .before .zero-fill .ensures
+      ∙ state-cleared _ _ (c .before .before .before .before .before .before .before .pre .0) refl),
+)
 
 shared-slice-read-fill-controller : tie.Need-shared-slice-read-fill-controller Inv-loop μ-loop
-shared-slice-read-fill-controller c = loads-ready _ (wide (c .before .before .before .before .before .before .before .before .before)) (c .before .before .before .before .before .before .before .before .before .before .before .pre .1) _ _ _ (c .before .before .loop-test .taken) (c .before .before .before .loop .inv .1) .0
+shared-slice-read-fill-controller c =
+    loads-ready _ (wide (c .before .before .before .before .before .before .before .before .before))
+    (c .before .before .before .before .before .before .before .before .before .before .before .pre .1) _ _ _ (c .before .before .loop-test .taken)
+    (c .before .before .before .loop .inv .1) .0
 
 cast-fill-controller : tie.Need-cast-fill-controller Inv-loop μ-loop
-cast-fill-controller c = omega (arith, c .before .before .before .before .before .before .before .before .before .shared-slice-known .given (c .before .before .before .loop .at))
+cast-fill-controller c =
+    omega (
+      arith,
+      c .before .before .before .before .before .before .before .before .before .shared-slice-known .given
+          (c .before .before .before .loop .at),
+    )
 
 add-fill-controller : tie.Need-add-fill-controller Inv-loop μ-loop
-add-fill-controller c = let g = loads-ready _ (wide (c .before .before .before .before .before .before .before .before .before)) (c .before .before .before .before .before .before .before .before .before .before .before .pre .1) _ _ _ (c .before .before .loop-test .taken) (c .before .before .before .loop .inv .1) in omega (arith, g .0)
+add-fill-controller c =
+    let g = loads-ready _ (wide (c .before .before .before .before .before .before .before .before .before))
+    (c .before .before .before .before .before .before .before .before .before .before .before .pre .1) _ _ _ (c .before .before .loop-test .taken)
+    (c .before .before .before .loop .inv .1) in omega (arith, g .0)
 
 fill-controller-requires : tie.Need-fill-controller-requires Inv-loop μ-loop
-fill-controller-requires c κs = let g = loads-ready _ (wide (c .before .before .before .before .before .before .before .before .before)) (c .before .before .before .before .before .before .before .before .before .before .before .pre .1) _ _ _ (c .before .before .loop-test .taken) (c .before .before .before .loop .inv .1) in (g .1, g .2, g .3, g .4)
+fill-controller-requires c κs =
+    let g = loads-ready _ (wide (c .before .before .before .before .before .before .before .before .before))
+    (c .before .before .before .before .before .before .before .before .before .before .before .pre .1) _ _ _ (c .before .before .loop-test .taken)
+    (c .before .before .before .loop .inv .1) in (g .1, g .2, g .3, g .4)
 
 sub-left : tie.Need-sub-left Inv-loop μ-loop
 sub-left c = search needs
@@ -50,7 +69,13 @@ loop-less : tie.Need-loop-less Inv-loop μ-loop
 loop-less c = omega arith
 
 loop-again : tie.Need-loop-again Inv-loop μ-loop
-loop-again c = (search needs, loads-turn _ (wide (c .before .before .before .before .before .before .before .before .before .before .before .before)) (c .before .before .before .before .before .before .before .before .before .before .before .before .before .before .pre .1) _ _ _ (c .before .before .before .before .before .loop-test .taken) (c .before .before .before .before .before .before .loop .inv .1) _ _ (c .before .before .fill-controller .ensures))
+loop-again c = (
+  search needs,
+  loads-turn _ (wide (c .before .before .before .before .before .before .before .before .before .before .before .before))
+      (c .before .before .before .before .before .before .before .before .before .before .before .before .before .before .pre .1) _ _ _
+      (c .before .before .before .before .before .loop-test .taken) (c .before .before .before .before .before .before .loop .inv .1) _ _
+      (c .before .before .fill-controller .ensures),
+)
 
 same-length : tie.Need-same-length Inv-loop μ-loop
 same-length c = search needs

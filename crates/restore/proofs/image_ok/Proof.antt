@@ -18,10 +18,14 @@ controllers-ok-requires : tie.Need-controllers-ok-requires
 controllers-ok-requires c κs = search needs
 
 returns-2 : tie.Need-returns-2
-returns-2 c = image-rest _ (c .before .before .before .before .before .if1 .left) _ (c .before .before .before .before .be32-at .ensures .0) (c .before .before .before .if2 .taken) (c .before .if3 .taken) _ (c .controllers-ok .ensures)
+returns-2 c =
+    image-rest _ (c .before .before .before .before .before .if1 .left) _ (c .before .before .before .before .be32-at .ensures .0)
+    (c .before .before .before .if2 .taken) (c .before .if3 .taken) _ (c .controllers-ok .ensures)
 
 returns-3 : tie.Need-returns-3
-returns-3 c = image-version _ (c .before .before .before .before .if1 .left) _ (c .before .before .before .be32-at .ensures .0) (c .before .before .if2 .taken) (c .if3 .left)
+returns-3 c =
+    image-version _ (c .before .before .before .before .if1 .left) _ (c .before .before .before .be32-at .ensures .0) (c .before .before .if2 .taken)
+    (c .if3 .left)
 
 returns-4 : tie.Need-returns-4
 returns-4 c = image-length _ (c .before .before .if1 .left) _ (c .before .be32-at .ensures .0) (c .if2 .left)

@@ -19,13 +19,23 @@ same-length : tie.Need-same-length
 same-length c = search needs
 
 returns : tie.Need-returns
-returns c = let e = load-done (c .before .before .before .before .before .before .before .before .before .args .state .now) (c .before .before .before .before .before .before .before .before .before .args .image .now) (c .before .before .before .before .before .before .if1 .taken) (sym (c .before .before .before .before .before .image-ok .ensures) ∙ c .before .before .before .before .if2 .taken) _ (c .before .before .fill .ensures) in (sym (ap (λ (q : Result Octets). q .answer) e), refl, sym (ap (λ (q : Result Octets). q .state) e))
+returns c =
+    let e = load-done (c .before .before .before .before .before .before .before .before .before .args .state .now)
+    (c .before .before .before .before .before .before .before .before .before .args .image .now)
+    (c .before .before .before .before .before .before .if1 .taken)
+    (sym (c .before .before .before .before .before .image-ok .ensures) ∙ c .before .before .before .before .if2 .taken) _
+    (c .before .before .fill .ensures) in (sym (ap (λ (q : Result Octets). q .answer) e), refl, sym (ap (λ (q : Result Octets). q .state) e))
 
 returns-2 : tie.Need-returns-2
-returns-2 c = let e = load-refused (c .before .before .before .before .before .args .state .now) (c .before .before .before .before .before .args .image .now) (c .before .before .if1 .taken) (sym (c .before .image-ok .ensures) ∙ c .if2 .left) in (sym (ap (λ (q : Result Octets). q .answer) e), refl, sym (ap (λ (q : Result Octets). q .state) e))
+returns-2 c =
+    let e = load-refused (c .before .before .before .before .before .args .state .now) (c .before .before .before .before .before .args .image .now)
+    (c .before .before .if1 .taken) (sym (c .before .image-ok .ensures) ∙ c .if2 .left) in
+    (sym (ap (λ (q : Result Octets). q .answer) e), refl, sym (ap (λ (q : Result Octets). q .state) e))
 
 returns-3 : tie.Need-returns-3
-returns-3 c = let e = load-length (c .before .before .before .args .state .now) (c .before .before .before .args .image .now) (c .if1 .left) in (sym (ap (λ (q : Result Octets). q .answer) e), refl, sym (ap (λ (q : Result Octets). q .state) e))
+returns-3 c =
+    let e = load-length (c .before .before .before .args .state .now) (c .before .before .before .args .image .now) (c .if1 .left) in
+    (sym (ap (λ (q : Result Octets). q .answer) e), refl, sym (ap (λ (q : Result Octets). q .state) e))
 
 pub load-spec : {M : Type 1} → statement M
 load-spec =

@@ -30,7 +30,10 @@ sub-if3-2 : tie.Need-sub-if3-2
 sub-if3-2 c = search needs
 
 mul-if3 : tie.Need-mul-if3
-mul-if3 c = let g = size-room (c .before .before .before .before .before .args .k) (c .size-of .result) (getD (c .before .before .before .before .before .args .image .now) (c .before .before .before .before .before .args .place) 0) (c .before .before .before .before .before .pre) (c .size-of .ensures) (omega arith) in omega (arith, g)
+mul-if3 c =
+    let g = size-room (c .before .before .before .before .before .args .k) (c .size-of .result)
+    (getD (c .before .before .before .before .before .args .image .now) (c .before .before .before .before .before .args .place) 0)
+    (c .before .before .before .before .before .pre) (c .size-of .ensures) (omega arith) in omega (arith, g)
 
 returns-3 : tie.Need-returns-3
 returns-3 c = (search needs, λ us f e. table-cut _ f us _ _ (omega arith) (omega arith) (rw (c .before .size-of .ensures) at (c .if3 .taken)))
@@ -48,7 +51,12 @@ add-result : tie.Need-add-result
 add-result c = search needs
 
 returns-4 : tie.Need-returns-4
-returns-4 c = (omega arith, λ us f e. table-empty _ f us _ _ (omega arith) (omega arith) (rw (c .before .before .before .before .before .size-of .ensures) at (c .before .before .before .before .if3 .left)) _ (c .before .before .before .list-word .ensures) (sym (c .before .before .keeps-rule .ensures) ∙ c .before .if4 .taken) (c .if5 .taken))
+returns-4 c = (
+  omega arith,
+  λ us f e. table-empty _ f us _ _ (omega arith) (omega arith)
+      (rw (c .before .before .before .before .before .size-of .ensures) at (c .before .before .before .before .if3 .left)) _
+      (c .before .before .before .list-word .ensures) (sym (c .before .before .keeps-rule .ensures) ∙ c .before .if4 .taken) (c .if5 .taken),
+)
 
 supports-requires : tie.Need-supports-requires
 supports-requires c κs = search needs
@@ -63,13 +71,32 @@ add-result-3 : tie.Need-add-result-3
 add-result-3 c = search needs
 
 returns-5 : tie.Need-returns-5
-returns-5 c = (omega arith, λ us f e. table-supported _ f us _ _ (omega arith) (omega arith) (rw (c .before .before .before .before .before .before .before .size-of .ensures) at (c .before .before .before .before .before .before .if3 .left)) _ (c .before .before .before .before .before .list-word .ensures) (sym (c .before .before .before .before .keeps-rule .ensures) ∙ c .before .before .before .if4 .taken) (c .before .before .if5 .left) (sym (c .before .supports .ensures f e) ∙ c .if6 .taken) _ (c .before .before .before .before .before .before .before .size-of .ensures))
+returns-5 c = (
+  omega arith,
+  λ us f e. table-supported _ f us _ _ (omega arith) (omega arith)
+      (rw (c .before .before .before .before .before .before .before .size-of .ensures) at
+      (c .before .before .before .before .before .before .if3 .left)) _ (c .before .before .before .before .before .list-word .ensures)
+      (sym (c .before .before .before .before .keeps-rule .ensures) ∙ c .before .before .before .if4 .taken) (c .before .before .if5 .left)
+      (sym (c .before .supports .ensures f e) ∙ c .if6 .taken) _ (c .before .before .before .before .before .before .before .size-of .ensures),
+)
 
 returns-6 : tie.Need-returns-6
-returns-6 c = (search needs, λ us f e. table-unsupported _ f us _ _ (omega arith) (omega arith) (rw (c .before .before .before .before .before .before .before .size-of .ensures) at (c .before .before .before .before .before .before .if3 .left)) _ (c .before .before .before .before .before .list-word .ensures) (sym (c .before .before .before .before .keeps-rule .ensures) ∙ c .before .before .before .if4 .taken) (c .before .before .if5 .left) (sym (c .before .supports .ensures f e) ∙ c .if6 .left))
+returns-6 c = (
+  search needs,
+  λ us f e. table-unsupported _ f us _ _ (omega arith) (omega arith)
+      (rw (c .before .before .before .before .before .before .before .size-of .ensures) at
+      (c .before .before .before .before .before .before .if3 .left)) _ (c .before .before .before .before .before .list-word .ensures)
+      (sym (c .before .before .before .before .keeps-rule .ensures) ∙ c .before .before .before .if4 .taken) (c .before .before .if5 .left)
+      (sym (c .before .supports .ensures f e) ∙ c .if6 .left),
+)
 
 returns-7 : tie.Need-returns-7
-returns-7 c = (search needs, λ us f e. table-breaks _ f us _ _ (omega arith) (omega arith) (rw (c .before .before .before .before .size-of .ensures) at (c .before .before .before .if3 .left)) _ (c .before .before .list-word .ensures) (sym (c .before .keeps-rule .ensures) ∙ c .if4 .left))
+returns-7 c = (
+  search needs,
+  λ us f e. table-breaks _ f us _ _ (omega arith) (omega arith)
+      (rw (c .before .before .before .before .size-of .ensures) at (c .before .before .before .if3 .left)) _ (c .before .before .list-word .ensures)
+      (sym (c .before .keeps-rule .ensures) ∙ c .if4 .left),
+)
 
 pub table-ends-spec : {M : Type 1} → statement M
 table-ends-spec =

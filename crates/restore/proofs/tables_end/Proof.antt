@@ -20,7 +20,11 @@ table-ends-requires : tie.Need-table-ends-requires Inv-loop μ-loop
 table-ends-requires c κs = search needs
 
 returns : tie.Need-returns Inv-loop μ-loop
-returns c = (search needs, go-none _ _ _ _ _ _ (c .before .before .loop-test .taken) (c .before .before .before .loop .inv .3) (c .before .table-ends .ensures .1) (c .if1 .taken))
+returns c = (
+  search needs,
+  go-none _ _ _ _ _ _ (c .before .before .loop-test .taken) (c .before .before .before .loop .inv .3)
+      (c .before .table-ends .ensures .1) (c .if1 .taken),
+)
 
 add-k : tie.Need-add-k Inv-loop μ-loop
 add-k c = search needs
@@ -29,7 +33,13 @@ loop-less : tie.Need-loop-less Inv-loop μ-loop
 loop-less c = omega arith
 
 loop-again : tie.Need-loop-again Inv-loop μ-loop
-loop-again c = (search needs, search needs, omega (arith, c .if1 .left), go-turn _ _ _ _ _ _ (c .before .before .loop-test .taken) (c .before .before .before .loop .inv .3) (c .before .table-ends .ensures .1) (c .if1 .left))
+loop-again c = (
+  search needs,
+  search needs,
+  omega (arith, c .if1 .left),
+  go-turn _ _ _ _ _ _ (c .before .before .loop-test .taken)
+      (c .before .before .before .loop .inv .3) (c .before .table-ends .ensures .1) (c .if1 .left),
+)
 
 returns-2 : tie.Need-returns-2 Inv-loop μ-loop
 returns-2 c = (search needs, go-last _ _ _ _ _ (search needs) (c .before .loop .inv .2) (c .before .loop .inv .3))

@@ -18,11 +18,25 @@ all-zero-requires-2 c κs = search needs
 
 returns : tie.Need-returns
 unfolding addressed
-returns c = rw (← c .before .before .before .before .before .all-zero .ensures, c .before .before .before .before .if1 .taken, ← c .before .all-zero2 .ensures, c .if2 .taken)
+returns c =
+    rw (
+      ← c .before .before .before .before .before .all-zero .ensures,
+      c .before .before .before .before .if1 .taken,
+      ←
+          c .before .all-zero2 .ensures,
+      c .if2 .taken,
+    )
 
 returns-2 : tie.Need-returns-2
 unfolding addressed
-returns-2 c = rw (← c .before .before .before .before .before .all-zero .ensures, c .before .before .before .before .if1 .taken, ← c .before .all-zero2 .ensures, c .if2 .left)
+returns-2 c =
+    rw (
+      ← c .before .before .before .before .before .all-zero .ensures,
+      c .before .before .before .before .if1 .taken,
+      ←
+          c .before .all-zero2 .ensures,
+      c .if2 .left,
+    )
 
 returns-3 : tie.Need-returns-3
 unfolding addressed

@@ -23,7 +23,9 @@ cast-t5 : tie.Need-cast-t5
 cast-t5 c = search needs
 
 sub-t6 : tie.Need-sub-t6
-sub-t6 c = let h : c .before .before .before .before .before .args .step < c .before .before .before .before .before .args .t .seconds = more-left _ _ (sym (c .before .before .before .before .ends .ensures) ∙ c .before .before .before .if1 .left) (c .before .if2 .left) in omega arith
+sub-t6 c =
+    let h : c .before .before .before .before .before .args .step < c .before .before .before .before .before .args .t .seconds = more-left _ _
+    (sym (c .before .before .before .before .ends .ensures) ∙ c .before .before .before .if1 .left) (c .before .if2 .left) in omega arith
 
 cast-t7 : tie.Need-cast-t7
 cast-t7 c = search needs

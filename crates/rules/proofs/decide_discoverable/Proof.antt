@@ -30,7 +30,16 @@ both-requires-2 c κs = search needs
 
 returns-3 : tie.Need-returns-3
 unfolding decision beforeBusyOf afterBusyOf waitOrAct firstOf statusOf octet setDiscoverable
-returns-3 c = rw (le-ltb _ _ (c .before .before .before .before .if1 .left), ← c .before .before .before .before .before .u16-at .ensures .0, ← c .before .before .before .both .ensures, c .before .before .if2 .left, ← c .before .both2 .ensures, c .if3 .taken)
+returns-3 c =
+    rw (
+      le-ltb _ _ (c .before .before .before .before .if1 .left),
+      ← c .before .before .before .before .before .u16-at .ensures .0,
+      ←
+          c .before .before .before .both .ensures,
+      c .before .before .if2 .left,
+      ← c .before .both2 .ensures,
+      c .if3 .taken,
+    )
 
 bredr-supported-requires : tie.Need-bredr-supported-requires
 bredr-supported-requires c κs = search needs
@@ -40,26 +49,103 @@ both-requires-3 c κs = search needs
 
 returns-4 : tie.Need-returns-4
 unfolding decision beforeBusyOf afterBusyOf waitOrAct firstOf statusOf octet setDiscoverable
-returns-4 c = rw (le-ltb _ _ (c .before .before .before .before .before .before .before .before .before .if1 .left), ← c .before .before .before .before .before .before .before .before .before .before .u16-at .ensures .0, ← c .before .before .before .before .before .before .before .before .both .ensures, c .before .before .before .before .before .before .before .if2 .left, ← c .before .before .before .before .before .before .both2 .ensures, c .before .before .before .before .before .if3 .left, ← c .before .before .before .before .bredr-supported .ensures, c .before .before .before .if4 .taken, ← c .before .both3 .ensures, c .if5 .taken)
+returns-4 c =
+    rw (
+      le-ltb _ _ (c .before .before .before .before .before .before .before .before .before .if1 .left),
+      ←
+          c .before .before .before .before .before .before .before .before .before .before .u16-at .ensures .0,
+      ←
+          c .before .before .before .before .before .before .before .before .both .ensures,
+      c .before .before .before .before .before .before .before .if2 .left,
+      ← c .before .before .before .before .before .before .both2 .ensures,
+      c .before .before .before .before .before .if3 .left,
+      ← c .before .before .before .before .bredr-supported .ensures,
+      c .before .before .before .if4 .taken,
+      ← c .before .both3 .ensures,
+      c .if5 .taken,
+    )
 
 both-requires-4 : tie.Need-both-requires-4
 both-requires-4 c κs = search needs
 
 returns-5 : tie.Need-returns-5
 unfolding decision beforeBusyOf afterBusyOf waitOrAct firstOf statusOf octet setDiscoverable
-returns-5 c = rw (le-ltb _ _ (c .before .before .before .before .before .before .before .before .before .before .before .before .if1 .left), ← c .before .before .before .before .before .before .before .before .before .before .before .before .before .u16-at .ensures .0, ← c .before .before .before .before .before .before .before .before .before .before .before .both .ensures, c .before .before .before .before .before .before .before .before .before .before .if2 .left, ← c .before .before .before .before .before .before .before .before .before .both2 .ensures, c .before .before .before .before .before .before .before .before .if3 .left, ← c .before .before .before .before .before .before .before .bredr-supported .ensures, c .before .before .before .before .before .before .if4 .taken, ← c .before .before .before .before .both3 .ensures, c .before .before .before .if5 .left, ← c .before .both4 .ensures, c .if6 .taken)
+returns-5 c =
+    rw (
+      le-ltb _ _ (c .before .before .before .before .before .before .before .before .before .before .before .before .if1 .left),
+      ←
+          c .before .before .before .before .before .before .before .before .before .before .before .before .before .u16-at .ensures .0,
+      ←
+          c .before .before .before .before .before .before .before .before .before .before .before .both .ensures,
+      c .before .before .before .before .before .before .before .before .before .before .if2 .left,
+      ← c .before .before .before .before .before .before .before .before .before .both2 .ensures,
+      c .before .before .before .before .before .before .before .before .if3 .left,
+      ← c .before .before .before .before .before .before .before .bredr-supported .ensures,
+      c .before .before .before .before .before .before .if4 .taken,
+      ← c .before .before .before .before .both3 .ensures,
+      c .before .before .before .if5 .left,
+      ← c .before .both4 .ensures,
+      c .if6 .taken,
+    )
 
 returns-6 : tie.Need-returns-6
 unfolding decision beforeBusyOf afterBusyOf waitOrAct firstOf statusOf octet setDiscoverable
-returns-6 c = rw (le-ltb _ _ (c .before .before .before .before .before .before .before .before .before .before .before .before .before .if1 .left), ← c .before .before .before .before .before .before .before .before .before .before .before .before .before .before .u16-at .ensures .0, ← c .before .before .before .before .before .before .before .before .before .before .before .before .both .ensures, c .before .before .before .before .before .before .before .before .before .before .before .if2 .left, ← c .before .before .before .before .before .before .before .before .before .before .both2 .ensures, c .before .before .before .before .before .before .before .before .before .if3 .left, ← c .before .before .before .before .before .before .before .before .bredr-supported .ensures, c .before .before .before .before .before .before .before .if4 .taken, ← c .before .before .before .before .before .both3 .ensures, c .before .before .before .before .if5 .left, ← c .before .before .both4 .ensures, c .before .if6 .left, c .if7 .taken)
+returns-6 c =
+    rw (
+      le-ltb _ _ (c .before .before .before .before .before .before .before .before .before .before .before .before .before .if1 .left),
+      ←
+          c .before .before .before .before .before .before .before .before .before .before .before .before .before .before .u16-at .ensures .0,
+      ←
+          c .before .before .before .before .before .before .before .before .before .before .before .before .both .ensures,
+      c .before .before .before .before .before .before .before .before .before .before .before .if2 .left,
+      ← c .before .before .before .before .before .before .before .before .before .before .both2 .ensures,
+      c .before .before .before .before .before .before .before .before .before .if3 .left,
+      ← c .before .before .before .before .before .before .before .before .bredr-supported .ensures,
+      c .before .before .before .before .before .before .before .if4 .taken,
+      ← c .before .before .before .before .before .both3 .ensures,
+      c .before .before .before .before .if5 .left,
+      ← c .before .before .both4 .ensures,
+      c .before .if6 .left,
+      c .if7 .taken,
+    )
 
 returns-7 : tie.Need-returns-7
 unfolding decision beforeBusyOf afterBusyOf waitOrAct firstOf statusOf octet setDiscoverable
-returns-7 c = rw (le-ltb _ _ (c .before .before .before .before .before .before .before .before .before .before .before .before .before .if1 .left), ← c .before .before .before .before .before .before .before .before .before .before .before .before .before .before .u16-at .ensures .0, ← c .before .before .before .before .before .before .before .before .before .before .before .before .both .ensures, c .before .before .before .before .before .before .before .before .before .before .before .if2 .left, ← c .before .before .before .before .before .before .before .before .before .before .both2 .ensures, c .before .before .before .before .before .before .before .before .before .if3 .left, ← c .before .before .before .before .before .before .before .before .bredr-supported .ensures, c .before .before .before .before .before .before .before .if4 .taken, ← c .before .before .before .before .before .both3 .ensures, c .before .before .before .before .if5 .left, ← c .before .before .both4 .ensures, c .before .if6 .left, c .if7 .left)
+returns-7 c =
+    rw (
+      le-ltb _ _ (c .before .before .before .before .before .before .before .before .before .before .before .before .before .if1 .left),
+      ←
+          c .before .before .before .before .before .before .before .before .before .before .before .before .before .before .u16-at .ensures .0,
+      ←
+          c .before .before .before .before .before .before .before .before .before .before .before .before .both .ensures,
+      c .before .before .before .before .before .before .before .before .before .before .before .if2 .left,
+      ← c .before .before .before .before .before .before .before .before .before .before .both2 .ensures,
+      c .before .before .before .before .before .before .before .before .before .if3 .left,
+      ← c .before .before .before .before .before .before .before .before .bredr-supported .ensures,
+      c .before .before .before .before .before .before .before .if4 .taken,
+      ← c .before .before .before .before .before .both3 .ensures,
+      c .before .before .before .before .if5 .left,
+      ← c .before .before .both4 .ensures,
+      c .before .if6 .left,
+      c .if7 .left,
+    )
 
 returns-8 : tie.Need-returns-8
 unfolding decision beforeBusyOf afterBusyOf waitOrAct firstOf statusOf octet setDiscoverable
-returns-8 c = rw (le-ltb _ _ (c .before .before .before .before .before .before .if1 .left), ← c .before .before .before .before .before .before .before .u16-at .ensures .0, ← c .before .before .before .before .before .both .ensures, c .before .before .before .before .if2 .left, ← c .before .before .before .both2 .ensures, c .before .before .if3 .left, ← c .before .bredr-supported .ensures, c .if4 .left)
+returns-8 c =
+    rw (
+      le-ltb _ _ (c .before .before .before .before .before .before .if1 .left),
+      ←
+          c .before .before .before .before .before .before .before .u16-at .ensures .0,
+      ←
+          c .before .before .before .before .before .both .ensures,
+      c .before .before .before .before .if2 .left,
+      ←
+          c .before .before .before .both2 .ensures,
+      c .before .before .if3 .left,
+      ← c .before .bredr-supported .ensures,
+      c .if4 .left,
+    )
 
 pub decide-discoverable-spec : {M : Type 1} → statement M
 decide-discoverable-spec =

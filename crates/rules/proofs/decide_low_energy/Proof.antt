@@ -26,15 +26,47 @@ both-requires c κs = search needs
 
 returns-2 : tie.Need-returns-2
 unfolding decision beforeBusyOf afterBusyOf waitOrAct firstOf statusOf octet setLowEnergy on
-returns-2 c = rw (le-ltb _ _ (c .before .before .before .before .before .before .if1 .left), ← c .before .before .before .before .le-supported .ensures, c .before .before .before .if2 .taken, ← c .before .before .bredr-supported .ensures, ← c .before .both .ensures, c .if3 .taken)
+returns-2 c =
+    rw (
+      le-ltb _ _ (c .before .before .before .before .before .before .if1 .left),
+      ←
+          c .before .before .before .before .le-supported .ensures,
+      c .before .before .before .if2 .taken,
+      ← c .before .before .bredr-supported .ensures,
+      ←
+          c .before .both .ensures,
+      c .if3 .taken,
+    )
 
 returns-3 : tie.Need-returns-3
 unfolding decision beforeBusyOf afterBusyOf waitOrAct firstOf statusOf octet setLowEnergy on
-returns-3 c = rw (le-ltb _ _ (c .before .before .before .before .before .before .before .if1 .left), ← c .before .before .before .before .before .le-supported .ensures, c .before .before .before .before .if2 .taken, ← c .before .before .before .bredr-supported .ensures, ← c .before .before .both .ensures, c .before .if3 .left, c .if4 .taken)
+returns-3 c =
+    rw (
+      le-ltb _ _ (c .before .before .before .before .before .before .before .if1 .left),
+      ←
+          c .before .before .before .before .before .le-supported .ensures,
+      c .before .before .before .before .if2 .taken,
+      ←
+          c .before .before .before .bredr-supported .ensures,
+      ← c .before .before .both .ensures,
+      c .before .if3 .left,
+      c .if4 .taken,
+    )
 
 returns-4 : tie.Need-returns-4
 unfolding decision beforeBusyOf afterBusyOf waitOrAct firstOf statusOf octet setLowEnergy on
-returns-4 c = rw (le-ltb _ _ (c .before .before .before .before .before .before .before .if1 .left), ← c .before .before .before .before .before .le-supported .ensures, c .before .before .before .before .if2 .taken, ← c .before .before .before .bredr-supported .ensures, ← c .before .before .both .ensures, c .before .if3 .left, c .if4 .left)
+returns-4 c =
+    rw (
+      le-ltb _ _ (c .before .before .before .before .before .before .before .if1 .left),
+      ←
+          c .before .before .before .before .before .le-supported .ensures,
+      c .before .before .before .before .if2 .taken,
+      ←
+          c .before .before .before .bredr-supported .ensures,
+      ← c .before .before .both .ensures,
+      c .before .if3 .left,
+      c .if4 .left,
+    )
 
 returns-5 : tie.Need-returns-5
 unfolding decision beforeBusyOf afterBusyOf waitOrAct firstOf statusOf octet setLowEnergy on

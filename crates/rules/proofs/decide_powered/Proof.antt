@@ -22,15 +22,35 @@ addressed-requires c κs = search needs
 
 returns-2 : tie.Need-returns-2
 unfolding decision beforeBusyOf afterBusyOf waitOrAct firstOf statusOf octet setPowered on sameBool
-returns-2 c = rw (le-ltb _ _ (c .before .before .before .before .if1 .left), eq-eqb _ _ (c .before .before .before .if2 .taken), both-zero _ _ (sym (c .before .before .addressed .ensures) ∙ c .before .if3 .taken), c .if4 .taken)
+returns-2 c =
+    rw (
+      le-ltb _ _ (c .before .before .before .before .if1 .left),
+      eq-eqb _ _ (c .before .before .before .if2 .taken),
+      both-zero _ _
+          (sym (c .before .before .addressed .ensures) ∙ c .before .if3 .taken),
+      c .if4 .taken,
+    )
 
 returns-3 : tie.Need-returns-3
 unfolding decision beforeBusyOf afterBusyOf waitOrAct firstOf statusOf octet setPowered on sameBool
-returns-3 c = rw (le-ltb _ _ (c .before .before .before .before .if1 .left), eq-eqb _ _ (c .before .before .before .if2 .taken), both-zero _ _ (sym (c .before .before .addressed .ensures) ∙ c .before .if3 .taken), c .if4 .left)
+returns-3 c =
+    rw (
+      le-ltb _ _ (c .before .before .before .before .if1 .left),
+      eq-eqb _ _ (c .before .before .before .if2 .taken),
+      both-zero _ _
+          (sym (c .before .before .addressed .ensures) ∙ c .before .if3 .taken),
+      c .if4 .left,
+    )
 
 returns-4 : tie.Need-returns-4
 unfolding decision beforeBusyOf afterBusyOf waitOrAct firstOf statusOf octet setPowered on sameBool
-returns-4 c = rw (le-ltb _ _ (c .before .before .before .if1 .left), eq-eqb _ _ (c .before .before .if2 .taken), both-zero _ _ (sym (c .before .addressed .ensures) ∙ c .if3 .left))
+returns-4 c =
+    rw (
+      le-ltb _ _ (c .before .before .before .if1 .left),
+      eq-eqb _ _ (c .before .before .if2 .taken),
+      both-zero _ _
+          (sym (c .before .addressed .ensures) ∙ c .if3 .left),
+    )
 
 returns-5 : tie.Need-returns-5
 unfolding decision beforeBusyOf afterBusyOf waitOrAct firstOf statusOf octet setPowered on sameBool

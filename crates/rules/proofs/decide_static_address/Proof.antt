@@ -15,11 +15,27 @@ le-supported-requires c κs = search needs
 
 returns : tie.Need-returns
 unfolding decision beforeBusyOf afterBusyOf waitOrAct firstOf statusOf octet setStaticAddress
-returns c = rw (← c .before .before .before .before .static-address-ok .ensures, c .before .before .before .if1 .taken, ← c .before .before .le-supported .ensures, c .before .if2 .taken, c .if3 .taken)
+returns c =
+    rw (
+      ← c .before .before .before .before .static-address-ok .ensures,
+      c .before .before .before .if1 .taken,
+      ←
+          c .before .before .le-supported .ensures,
+      c .before .if2 .taken,
+      c .if3 .taken,
+    )
 
 returns-2 : tie.Need-returns-2
 unfolding decision beforeBusyOf afterBusyOf waitOrAct firstOf statusOf octet setStaticAddress
-returns-2 c = rw (← c .before .before .before .before .static-address-ok .ensures, c .before .before .before .if1 .taken, ← c .before .before .le-supported .ensures, c .before .if2 .taken, c .if3 .left)
+returns-2 c =
+    rw (
+      ← c .before .before .before .before .static-address-ok .ensures,
+      c .before .before .before .if1 .taken,
+      ←
+          c .before .before .le-supported .ensures,
+      c .before .if2 .taken,
+      c .if3 .left,
+    )
 
 returns-3 : tie.Need-returns-3
 unfolding decision beforeBusyOf afterBusyOf waitOrAct firstOf statusOf octet setStaticAddress

@@ -18,7 +18,9 @@ with-timer-requires : tie.Need-with-timer-requires
 with-timer-requires c κs = search needs
 
 returns : tie.Need-returns
-returns c = c .with-timer .ensures ∙ powered-ends _ _ _ (c .before .no-timer .ensures) (sym (c .before .before .before .both .ensures) ∙ c .before .before .if1 .taken)
+returns c =
+    c .with-timer .ensures ∙ powered-ends _ _ _ (c .before .no-timer .ensures)
+    (sym (c .before .before .before .both .ensures) ∙ c .before .before .if1 .taken)
 
 returns-2 : tie.Need-returns-2
 returns-2 c = powered-stays _ _ (sym (c .before .both .ensures) ∙ c .if1 .left)

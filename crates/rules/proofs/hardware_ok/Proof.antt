@@ -19,18 +19,47 @@ all-zero-requires c κs = search needs
 
 returns : tie.Need-returns
 unfolding hardwareOk
-returns c = rw (eq-eqb (length (c .before .before .before .before .before .before .before .before .args .f .publicAddress)) 6 (search needs), lt-ltb _ _ (c .before .before .before .before .before .before .if1 .taken), ← c .before .before .before .before .before .bredr-supported .ensures, c .before .before .before .before .if2 .taken, ← c .before .all-zero .ensures, c .if3 .taken)
+returns c =
+    rw (
+      eq-eqb (length (c .before .before .before .before .before .before .before .before .args .f .publicAddress)) 6 (search needs),
+      lt-ltb _ _
+          (c .before .before .before .before .before .before .if1 .taken),
+      ←
+          c .before .before .before .before .before .bredr-supported .ensures,
+      c .before .before .before .before .if2 .taken,
+      ←
+          c .before .all-zero .ensures,
+      c .if3 .taken,
+    )
 
 returns-2 : tie.Need-returns-2
 unfolding hardwareOk
-returns-2 c = rw (eq-eqb (length (c .before .before .before .before .before .before .before .before .args .f .publicAddress)) 6 (search needs), lt-ltb _ _ (c .before .before .before .before .before .before .if1 .taken), ← c .before .before .before .before .before .bredr-supported .ensures, c .before .before .before .before .if2 .taken, ← c .before .all-zero .ensures, c .if3 .left)
+returns-2 c =
+    rw (
+      eq-eqb (length (c .before .before .before .before .before .before .before .before .args .f .publicAddress)) 6 (search needs),
+      lt-ltb _ _
+          (c .before .before .before .before .before .before .if1 .taken),
+      ←
+          c .before .before .before .before .before .bredr-supported .ensures,
+      c .before .before .before .before .if2 .taken,
+      ←
+          c .before .all-zero .ensures,
+      c .if3 .left,
+    )
 
 le-supported-requires : tie.Need-le-supported-requires
 le-supported-requires c κs = search needs
 
 returns-3 : tie.Need-returns-3
 unfolding hardwareOk
-returns-3 c = rw (eq-eqb (length (c .before .before .before .before .before .args .f .publicAddress)) 6 (search needs), lt-ltb _ _ (c .before .before .before .if1 .taken), ← c .before .before .bredr-supported .ensures, c .before .if2 .left) (c .le-supported .ensures ∙ and-on _)
+returns-3 c =
+    rw (
+      eq-eqb (length (c .before .before .before .before .before .args .f .publicAddress)) 6 (search needs),
+      lt-ltb _ _
+          (c .before .before .before .if1 .taken),
+      ← c .before .before .bredr-supported .ensures,
+      c .before .if2 .left,
+    ) (c .le-supported .ensures ∙ and-on _)
 
 returns-4 : tie.Need-returns-4
 unfolding hardwareOk

@@ -35,19 +35,56 @@ slice-aggregate-static-address-ok : tie.Need-slice-aggregate-static-address-ok
 slice-aggregate-static-address-ok c = search needs
 
 static-address-ok-requires : tie.Need-static-address-ok-requires
-static-address-ok-requires c κs = let o : 6 ≡ length (c .before .before .before .before .before .before .before .before .before .before .before .before .before .before .before .args .r .staticAddress) = slice-aggregate-static-address-ok c in omega arith
+static-address-ok-requires c κs =
+    let o : 6 ≡ length
+    (c .before .before .before .before .before .before .before .before .before .before .before .before .before .before .before .args .r
+    .staticAddress) = slice-aggregate-static-address-ok c in omega arith
 
 returns : tie.Need-returns
 unfolding radioOk
-returns c = rw (← c .before .before .before .before .before .before .before .before .before .before .before .before .before .hardware-ok .ensures, c .before .before .before .before .before .before .before .before .before .before .before .before .if1 .taken, ← c .before .before .before .before .before .before .before .before .before .before .before .bredr-supported .ensures, ← c .before .before .before .before .before .before .before .before .before .before .either .ensures, c .before .before .before .before .before .before .before .before .before .if2 .taken, ← c .before .before .before .before .before .before .before .before .le-supported .ensures, ← c .before .before .before .before .before .all-zero .ensures, ← c .before .before .before .before .both .ensures, ← c .before .before .before .either2 .ensures, c .before .before .if3 .taken) (c .static-address-ok .ensures)
+returns c =
+    rw (
+      ←
+          c .before .before .before .before .before .before .before .before .before .before .before .before .before .hardware-ok .ensures,
+      c .before .before .before .before .before .before .before .before .before .before .before .before .if1 .taken,
+      ← c .before .before .before .before .before .before .before .before .before .before .before .bredr-supported .ensures,
+      ← c .before .before .before .before .before .before .before .before .before .before .either .ensures,
+      c .before .before .before .before .before .before .before .before .before .if2 .taken,
+      ← c .before .before .before .before .before .before .before .before .le-supported .ensures,
+      ← c .before .before .before .before .before .all-zero .ensures,
+      ← c .before .before .before .before .both .ensures,
+      ← c .before .before .before .either2 .ensures,
+      c .before .before .if3 .taken,
+    ) (c .static-address-ok .ensures)
 
 returns-2 : tie.Need-returns-2
 unfolding radioOk
-returns-2 c = rw (← c .before .before .before .before .before .before .before .before .before .before .before .hardware-ok .ensures, c .before .before .before .before .before .before .before .before .before .before .if1 .taken, ← c .before .before .before .before .before .before .before .before .before .bredr-supported .ensures, ← c .before .before .before .before .before .before .before .before .either .ensures, c .before .before .before .before .before .before .before .if2 .taken, ← c .before .before .before .before .before .before .le-supported .ensures, ← c .before .before .before .all-zero .ensures, ← c .before .before .both .ensures, ← c .before .either2 .ensures, c .if3 .left)
+returns-2 c =
+    rw (
+      ←
+          c .before .before .before .before .before .before .before .before .before .before .before .hardware-ok .ensures,
+      c .before .before .before .before .before .before .before .before .before .before .if1 .taken,
+      ← c .before .before .before .before .before .before .before .before .before .bredr-supported .ensures,
+      ← c .before .before .before .before .before .before .before .before .either .ensures,
+      c .before .before .before .before .before .before .before .if2 .taken,
+      ← c .before .before .before .before .before .before .le-supported .ensures,
+      ← c .before .before .before .all-zero .ensures,
+      ← c .before .before .both .ensures,
+      ← c .before .either2 .ensures,
+      c .if3 .left,
+    )
 
 returns-3 : tie.Need-returns-3
 unfolding radioOk
-returns-3 c = rw (← c .before .before .before .before .hardware-ok .ensures, c .before .before .before .if1 .taken, ← c .before .before .bredr-supported .ensures, ← c .before .either .ensures, c .if2 .left)
+returns-3 c =
+    rw (
+      ← c .before .before .before .before .hardware-ok .ensures,
+      c .before .before .before .if1 .taken,
+      ←
+          c .before .before .bredr-supported .ensures,
+      ← c .before .either .ensures,
+      c .if2 .left,
+    )
 
 returns-4 : tie.Need-returns-4
 unfolding radioOk

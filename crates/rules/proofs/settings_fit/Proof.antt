@@ -22,11 +22,28 @@ either-requires-3 c κs = search needs
 
 returns : tie.Need-returns
 unfolding settingsOk settingsFit
-returns c = rw (← c .before .before .before .before .before .before .before .before .either .ensures, c .before .before .before .before .before .before .before .if1 .taken, ← c .before .before .before .before .before .both .ensures, ← c .before .before .before .before .either2 .ensures, c .before .before .before .if2 .taken, ← c .before .addressed .ensures) (c .either3 .ensures)
+returns c =
+    rw (
+      ←
+          c .before .before .before .before .before .before .before .before .either .ensures,
+      c .before .before .before .before .before .before .before .if1 .taken,
+      ← c .before .before .before .before .before .both .ensures,
+      ← c .before .before .before .before .either2 .ensures,
+      c .before .before .before .if2 .taken,
+      ← c .before .addressed .ensures,
+    ) (c .either3 .ensures)
 
 returns-2 : tie.Need-returns-2
 unfolding settingsOk settingsFit
-returns-2 c = rw (← c .before .before .before .before .before .either .ensures, c .before .before .before .before .if1 .taken, ← c .before .before .both .ensures, ← c .before .either2 .ensures, c .if2 .left)
+returns-2 c =
+    rw (
+      ← c .before .before .before .before .before .either .ensures,
+      c .before .before .before .before .if1 .taken,
+      ←
+          c .before .before .both .ensures,
+      ← c .before .either2 .ensures,
+      c .if2 .left,
+    )
 
 returns-3 : tie.Need-returns-3
 unfolding settingsOk settingsFit

@@ -42,7 +42,8 @@ effect-discoverable-requires : tie.Need-effect-discoverable-requires
 effect-discoverable-requires c κs = search needs
 
 returns-2 : tie.Need-returns-2
-returns-2 c = makes-by _ _ _ _ _ _ _ _ _ opens-discoverable (c .before .before .if2 .taken) discoverable-size (lent-part _ _ _) (c .effect-discoverable .ensures)
+returns-2 c =
+    makes-by _ _ _ _ _ _ _ _ _ opens-discoverable (c .before .before .if2 .taken) discoverable-size (lent-part _ _ _) (c .effect-discoverable .ensures)
 
 add-effect-connectable : tie.Need-add-effect-connectable
 add-effect-connectable c = search needs
@@ -78,7 +79,9 @@ effect-low-energy-requires : tie.Need-effect-low-energy-requires
 effect-low-energy-requires c κs = search needs
 
 returns-4 : tie.Need-returns-4
-returns-4 c = makes-last _ _ _ _ _ _ _ (c .before .before .before .before .if1 .left) (c .before .before .before .if2 .left) (c .before .before .if3 .left) low-energy-size (lent-part _ _ _) (c .effect-low-energy .ensures)
+returns-4 c =
+    makes-last _ _ _ _ _ _ _ (c .before .before .before .before .if1 .left) (c .before .before .before .if2 .left) (c .before .before .if3 .left)
+    low-energy-size (lent-part _ _ _) (c .effect-low-energy .ensures)
 
 pub acted-settings-spec : {M : Type 1} → statement M
 acted-settings-spec =

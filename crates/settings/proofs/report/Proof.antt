@@ -17,16 +17,30 @@ same-length : tie.Need-same-length
 same-length c = search needs
 
 returns : tie.Need-returns
-returns c = report-idle _ _ _ _ (ready _ _ (c .before .before .before .before .before .before .before .before .pre .0) (sym (c .before .before .before .before .present .ensures) ∙ c .before .before .before .if1 .taken)) (sym (c .before .open-code .ensures) ∙ c .if2 .taken)
+returns c =
+    report-idle _ _ _ _ (ready _ _ (c .before .before .before .before .before .before .before .before .pre .0)
+    (sym (c .before .before .before .before .present .ensures) ∙ c .before .before .before .if1 .taken))
+    (sym (c .before .open-code .ensures) ∙ c .if2 .taken)
 
 same-length-2 : tie.Need-same-length-2
 same-length-2 c = search needs
 
 returns-2 : tie.Need-returns-2
-returns-2 c = report-above _ _ _ _ (ready _ _ (c .before .before .before .before .before .before .before .before .before .pre .0) (sym (c .before .before .before .before .before .present .ensures) ∙ c .before .before .before .before .if1 .taken)) (λ e. c .before .if2 .left (c .before .before .open-code .ensures ∙ e)) (c .if3 .taken)
+returns-2 c =
+    report-above _ _ _ _ (ready _ _ (c .before .before .before .before .before .before .before .before .before .pre .0)
+    (sym (c .before .before .before .before .before .present .ensures) ∙ c .before .before .before .before .if1 .taken))
+    (λ e. c .before .if2 .left (c .before .before .open-code .ensures ∙ e)) (c .if3 .taken)
 
 finish-requires : tie.Need-finish-requires
-finish-requires c κs = (ready _ _ (c .before .before .before .before .before .before .before .before .before .before .before .before .pre .0) (sym (c .before .before .before .before .before .before .before .before .present .ensures) ∙ c .before .before .before .before .before .before .before .if1 .taken), search needs, c .before .before .before .before .before .open-code .ensures, c .before .before .before .before .if2 .left)
+finish-requires c κs = (
+  ready _ _ (c .before .before .before .before .before .before .before .before .before .before .before .before .pre .0)
+      (sym (c .before .before .before .before .before .before .before .before .present .ensures)
+      ∙ c .before .before .before .before .before .before .before .if1 .taken),
+  search
+      needs,
+  c .before .before .before .before .before .open-code .ensures,
+  c .before .before .before .before .if2 .left,
+)
 
 same-length-3 : tie.Need-same-length-3
 same-length-3 c = search needs
@@ -44,7 +58,10 @@ command-status-requires : tie.Need-command-status-requires
 command-status-requires c κs = search needs
 
 clear-open-requires : tie.Need-clear-open-requires
-clear-open-requires c κs = ready _ _ (c .before .before .before .before .before .before .before .before .before .before .before .before .before .before .before .pre .0) (sym (c .before .before .before .before .before .before .before .before .before .before .before .present .ensures) ∙ c .before .before .before .before .before .before .before .before .before .before .if1 .taken)
+clear-open-requires c κs =
+    ready _ _ (c .before .before .before .before .before .before .before .before .before .before .before .before .before .before .before .pre .0)
+    (sym (c .before .before .before .before .before .before .before .before .before .before .before .present .ensures)
+    ∙ c .before .before .before .before .before .before .before .before .before .before .if1 .taken)
 
 same-length-5 : tie.Need-same-length-5
 same-length-5 c = search needs
@@ -53,7 +70,18 @@ same-length-6 : tie.Need-same-length-6
 same-length-6 c = search needs
 
 returns-4 : tie.Need-returns-4
-returns-4 c = report-failed _ _ _ _ _ _ _ (ready _ _ (c .before .before .before .before .before .before .before .before .before .before .before .before .before .before .before .before .before .before .pre .0) (sym (c .before .before .before .before .before .before .before .before .before .before .before .before .before .before .present .ensures) ∙ c .before .before .before .before .before .before .before .before .before .before .before .before .before .if1 .taken)) (search needs) (c .before .before .before .before .before .before .before .before .before .before .before .open-code .ensures) (c .before .before .before .before .before .before .before .before .before .before .if2 .left) (c .before .before .before .before .before .before .before .before .before .if3 .left) (c .before .before .before .before .before .before .before .before .if4 .left) (c .before .before .before .before .before .before .command-status .ensures) (c .before .before .clear-open .ensures)
+returns-4 c =
+    report-failed _ _ _ _ _ _ _
+    (ready _ _
+    (c .before .before .before .before .before .before .before .before .before .before .before .before .before .before .before .before .before .before
+    .pre .0)
+    (sym (c .before .before .before .before .before .before .before .before .before .before .before .before .before .before .present .ensures)
+    ∙ c .before .before .before .before .before .before .before .before .before .before .before .before .before .if1 .taken)) (search needs)
+    (c .before .before .before .before .before .before .before .before .before .before .before .open-code .ensures)
+    (c .before .before .before .before .before .before .before .before .before .before .if2 .left)
+    (c .before .before .before .before .before .before .before .before .before .if3 .left)
+    (c .before .before .before .before .before .before .before .before .if4 .left)
+    (c .before .before .before .before .before .before .command-status .ensures) (c .before .before .clear-open .ensures)
 
 same-length-7 : tie.Need-same-length-7
 same-length-7 c = search needs

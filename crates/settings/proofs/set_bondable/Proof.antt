@@ -12,7 +12,9 @@ same-length : tie.Need-same-length
 same-length c = search needs
 
 returns : tie.Need-returns
-returns c = bondable-length _ _ _ _ _ _ (search needs) (search needs) (c .before .before .before .before .if1 .taken) (c .before .before .refuse .ensures .0) (c .before .before .refuse .ensures .1)
+returns c =
+    bondable-length _ _ _ _ _ _ (search needs) (search needs) (c .before .before .before .before .if1 .taken) (c .before .before .refuse .ensures .0)
+    (c .before .before .refuse .ensures .1)
 
 shared-slice-read-v : tie.Need-shared-slice-read-v
 shared-slice-read-v c = search needs
@@ -24,7 +26,9 @@ same-length-2 : tie.Need-same-length-2
 same-length-2 c = search needs
 
 returns-2 : tie.Need-returns-2
-returns-2 c = bondable-refused _ _ _ _ _ _ (search needs) (search needs) (c .before .before .before .before .before .before .if1 .left) (c .before .before .before .before .if2 .taken) (c .before .before .refuse2 .ensures .0) (c .before .before .refuse2 .ensures .1)
+returns-2 c =
+    bondable-refused _ _ _ _ _ _ (search needs) (search needs) (c .before .before .before .before .before .before .if1 .left)
+    (c .before .before .before .before .if2 .taken) (c .before .before .refuse2 .ensures .0) (c .before .before .refuse2 .ensures .1)
 
 settings-at-requires : tie.Need-settings-at-requires
 settings-at-requires c κs = search needs
@@ -42,7 +46,13 @@ same-length-4 : tie.Need-same-length-4
 same-length-4 c = search needs
 
 returns-3 : tie.Need-returns-3
-returns-3 c = bondable-done _ _ _ _ _ _ (search needs) (search needs) _ _ _ (c .before .before .before .before .before .before .before .before .before .before .before .before .if1 .left) (c .before .before .before .before .before .before .before .before .before .before .if2 .left) (c .before .before .before .before .before .before .before .before .settings-at .ensures) (c .before .before .before .before .before .before .before .with-bondable .ensures) (c .before .before .before .before .apply .ensures .0) (c .before .before .before .before .apply .ensures .1) (c .before .before .before .before .apply .ensures .2)
+returns-3 c =
+    bondable-done _ _ _ _ _ _ (search needs) (search needs) _ _ _
+    (c .before .before .before .before .before .before .before .before .before .before .before .before .if1 .left)
+    (c .before .before .before .before .before .before .before .before .before .before .if2 .left)
+    (c .before .before .before .before .before .before .before .before .settings-at .ensures)
+    (c .before .before .before .before .before .before .before .with-bondable .ensures) (c .before .before .before .before .apply .ensures .0)
+    (c .before .before .before .before .apply .ensures .1) (c .before .before .before .before .apply .ensures .2)
 
 pub set-bondable-spec : {M : Type 1} → statement M
 set-bondable-spec =

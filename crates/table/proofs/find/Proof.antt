@@ -19,7 +19,12 @@ next-used-requires : tie.Need-next-used-requires Inv-loop μ-loop
 next-used-requires c κs = search needs
 
 loop-holds : tie.Need-loop-holds Inv-loop μ-loop
-loop-holds c = (search needs, c .next-used .ensures .0 (c .before .before .before .args .size) .used, left-first _ _ _ _ _ _ (c .next-used .ensures .0 (c .before .before .before .args .size)))
+loop-holds c = (
+  search needs,
+  c .next-used .ensures .0 (c .before .before .before .args .size) .used,
+  left-first _ _ _ _ _ _
+      (c .next-used .ensures .0 (c .before .before .before .args .size)),
+)
 
 mul-same-part : tie.Need-mul-same-part Inv-loop μ-loop
 mul-same-part c = omega (arith, slot-room (c .before .before .before .before .before .args .size) (c .before .loop .k) (omega arith))
@@ -34,7 +39,11 @@ same-part-requires : tie.Need-same-part-requires Inv-loop μ-loop
 same-part-requires c κs = (search needs, omega (arith, slot-room (c .before .before .before .before .before .args .size) (c .before .loop .k) (omega arith)))
 
 returns : tie.Need-returns Inv-loop μ-loop
-returns c = (left-hit _ _ _ _ _ _ (search needs) (c .before .before .before .loop .inv .1 (omega arith)) (sym (c .before .same-part .ensures) ∙ c .if1 .taken) (c .before .before .before .loop .inv .2), search needs)
+returns c = (
+  left-hit _ _ _ _ _ _ (search needs) (c .before .before .before .loop .inv .1 (omega arith)) (sym (c .before .same-part .ensures) ∙ c .if1 .taken)
+      (c .before .before .before .loop .inv .2),
+  search needs,
+)
 
 add-next-used : tie.Need-add-next-used Inv-loop μ-loop
 add-next-used c = search needs
@@ -46,7 +55,15 @@ loop-less : tie.Need-loop-less Inv-loop μ-loop
 loop-less c = omega arith
 
 loop-again : tie.Need-loop-again Inv-loop μ-loop
-loop-again c = (search needs, c .next-used2 .ensures .0 (c .before .before .before .before .before .before .before .before .args .size) .used, left-miss _ _ _ _ _ _ _ (search needs) (c .before .before .before .before .loop .inv .1 (omega arith)) (sym (c .before .before .same-part .ensures) ∙ c .before .if1 .left) (c .next-used2 .ensures .0 (c .before .before .before .before .before .before .before .before .args .size)) (search needs) (c .before .before .before .before .loop .inv .2))
+loop-again c = (
+  search needs,
+  c .next-used2 .ensures .0 (c .before .before .before .before .before .before .before .before .args .size) .used,
+  left-miss _ _ _ _
+      _ _ _ (search needs) (c .before .before .before .before .loop .inv .1 (omega arith))
+      (sym (c .before .before .same-part .ensures) ∙ c .before .if1 .left)
+      (c .next-used2 .ensures .0 (c .before .before .before .before .before .before .before .before .args .size)) (search needs)
+      (c .before .before .before .before .loop .inv .2),
+)
 
 returns-2 : tie.Need-returns-2 Inv-loop μ-loop
 returns-2 c = (left-none _ _ _ _ _ (c .before .loop .k) (omega arith) (omega arith) (c .before .loop .inv .2), search needs)

@@ -14,7 +14,8 @@ cast-w : tie.Need-cast-w
 cast-w c = search needs
 
 returns : tie.Need-returns
-returns c = (λ size. free-full _ _ size (c .before .u32-at .result) (c .before .u32-at .ensures .0) (c .before .u32-at .ensures .1) (c .if1 .taken), omega arith)
+returns c =
+    (λ size. free-full _ _ size (c .before .u32-at .result) (c .before .u32-at .ensures .0) (c .before .u32-at .ensures .1) (c .if1 .taken), omega arith)
 
 cast-result : tie.Need-cast-result
 cast-result c = zeros-fit _

@@ -21,7 +21,14 @@ mul-copy-part : tie.Need-mul-copy-part
 mul-copy-part c = search needs
 
 copy-part-requires : tie.Need-copy-part-requires
-copy-part-requires c κs = (omega (arith, rest-room (c .before .before .before .before .before .before .before .args .size) (c .before .before .before .before .before .before .before .args .n) (omega arith)), search needs)
+copy-part-requires c κs = (
+  omega (
+    arith,
+    rest-room (c .before .before .before .before .before .before .before .args .size)
+        (c .before .before .before .before .before .before .before .args .n) (omega arith),
+  ),
+  search needs,
+)
 
 mul-zero-fill : tie.Need-mul-zero-fill
 mul-zero-fill c = search needs
@@ -36,16 +43,29 @@ sub-zero-fill : tie.Need-sub-zero-fill
 sub-zero-fill c = search needs
 
 mul-zero-fill-2 : tie.Need-mul-zero-fill-2
-mul-zero-fill-2 c = omega (arith, rest-room (c .before .before .before .before .before .before .before .before .before .before .before .args .size) (c .before .before .before .before .before .before .before .before .before .before .before .args .n) (omega arith))
+mul-zero-fill-2 c =
+    omega (
+      arith,
+      rest-room (c .before .before .before .before .before .before .before .before .before .before .before .args .size)
+          (c .before .before .before .before .before .before .before .before .before .before .before .args .n) (omega arith),
+    )
 
 zero-fill-requires : tie.Need-zero-fill-requires
-zero-fill-requires c κs = omega (arith, rest-room (c .before .before .before .before .before .before .before .before .before .before .before .args .size) (c .before .before .before .before .before .before .before .before .before .before .before .args .n) (omega arith))
+zero-fill-requires c κs =
+    omega (
+      arith,
+      rest-room (c .before .before .before .before .before .before .before .before .before .before .before .args .size)
+          (c .before .before .before .before .before .before .before .before .before .before .before .args .n) (omega arith),
+    )
 
 same-length : tie.Need-same-length
 same-length c = search needs
 
 returns : tie.Need-returns
-returns c = load-done _ _ _ _ _ _ _ _ _ (search needs) (search needs) (c .before .before .before .before .before .before .before .before .before .before .put32 .ensures) (c .before .before .before .before .before .before .copy-part .ensures) (c .before .before .zero-fill .ensures)
+returns c =
+    load-done _ _ _ _ _ _ _ _ _ (search needs) (search needs)
+    (c .before .before .before .before .before .before .before .before .before .before .put32 .ensures)
+    (c .before .before .before .before .before .before .copy-part .ensures) (c .before .before .zero-fill .ensures)
 
 pub load-spec : {M : Type 1} → statement M
 load-spec =

@@ -18,7 +18,12 @@ next-used-requires : tie.Need-next-used-requires Inv-loop μ-loop
 next-used-requires c κs = search needs
 
 loop-holds : tie.Need-loop-holds Inv-loop μ-loop
-loop-holds c = (search needs, c .next-used .ensures .0 (c .before .before .args .size) .used, joined-first _ _ _ _ _ (c .next-used .ensures .0 (c .before .before .args .size)))
+loop-holds c = (
+  search needs,
+  c .next-used .ensures .0 (c .before .before .args .size) .used,
+  joined-first _ _ _ _ _
+      (c .next-used .ensures .0 (c .before .before .args .size)),
+)
 
 mul-hints : tie.Need-mul-hints Inv-loop μ-loop
 mul-hints c = omega (arith, slot-room (c .before .before .before .before .args .size) (c .before .loop .slot) (omega arith))
@@ -45,7 +50,13 @@ loop-less : tie.Need-loop-less Inv-loop μ-loop
 loop-less c = omega arith
 
 loop-again : tie.Need-loop-again Inv-loop μ-loop
-loop-again c = (search needs, c .next-used2 .ensures .0 (c .before .before .before .before .before .before .args .size) .used, joined-turn _ _ _ _ (c .before .before .before .loop .hints) _ _ (search needs) (c .before .before .before .loop .inv .1 (c .before .before .loop-test .taken)) (c .next-used2 .ensures .0 (c .before .before .before .before .before .before .args .size)) (c .before .before .before .loop .inv .2))
+loop-again c = (
+  search needs,
+  c .next-used2 .ensures .0 (c .before .before .before .before .before .before .args .size) .used,
+  joined-turn _ _ _ _
+      (c .before .before .before .loop .hints) _ _ (search needs) (c .before .before .before .loop .inv .1 (c .before .before .loop-test .taken))
+      (c .next-used2 .ensures .0 (c .before .before .before .before .before .before .args .size)) (c .before .before .before .loop .inv .2),
+)
 
 returns : tie.Need-returns Inv-loop μ-loop
 returns c = joined-last _ _ _ _ _ _ (c .loop-test .left) (c .before .loop .inv .2)

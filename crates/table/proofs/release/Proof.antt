@@ -40,7 +40,11 @@ same-length : tie.Need-same-length
 same-length c = search needs
 
 returns : tie.Need-returns
-returns c = release-done _ _ _ _ _ _ _ (search needs) (c .before .before .before .before .before .before .before .before .before .before .before .pre .1) (search needs) (c .before .before .before .before .before .before .before .before .u32-at .ensures .0) (c .before .before .before .before .before .before .before .before .u32-at .ensures .1) (c .before .before .before .before .before .before .zero-fill .ensures) (c .before .before .put32 .ensures)
+returns c =
+    release-done _ _ _ _ _ _ _ (search needs) (c .before .before .before .before .before .before .before .before .before .before .before .pre .1)
+    (search needs) (c .before .before .before .before .before .before .before .before .u32-at .ensures .0)
+    (c .before .before .before .before .before .before .before .before .u32-at .ensures .1)
+    (c .before .before .before .before .before .before .zero-fill .ensures) (c .before .before .put32 .ensures)
 
 pub release-spec : {M : Type 1} → statement M
 release-spec =

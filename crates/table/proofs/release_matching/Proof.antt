@@ -26,13 +26,27 @@ release-requires : tie.Need-release-requires Inv-loop μ-loop
 release-requires c κs = (search needs, c .before .before .loop .inv .2 .canonical, search needs)
 
 find-requires-2 : tie.Need-find-requires-2 Inv-loop μ-loop
-find-requires-2 c κs = (omega (arith, c .before .before .before .release .kept .0, c .before .before .before .before .before .before .loop .inv .2 .long), search needs, search needs)
+find-requires-2 c κs = (
+  omega (arith, c .before .before .before .release .kept .0, c .before .before .before .before .before .before .loop .inv .2 .long),
+  search
+      needs,
+  search needs,
+)
 
 loop-less : tie.Need-loop-less Inv-loop μ-loop
-loop-less c = freeing-less _ _ _ _ _ _ _ (search needs) (c .before .before .before .before .before .before .before .loop .inv .1) (c .before .before .before .before .before .before .loop-test .taken) (c .before .before .before .before .before .before .before .loop .inv .2) (c .before .before .before .before .release .ensures)
+loop-less c =
+    freeing-less _ _ _ _ _ _ _ (search needs) (c .before .before .before .before .before .before .before .loop .inv .1)
+    (c .before .before .before .before .before .before .loop-test .taken) (c .before .before .before .before .before .before .before .loop .inv .2)
+    (c .before .before .before .before .release .ensures)
 
 loop-again : tie.Need-loop-again Inv-loop μ-loop
-loop-again c = (search needs, c .find2 .ensures .0, freeing-turn _ _ _ _ _ _ _ (search needs) (c .before .before .before .before .before .before .before .loop .inv .1) (c .before .before .before .before .before .before .loop-test .taken) (c .before .before .before .before .before .before .before .loop .inv .2) (c .before .before .before .before .release .ensures))
+loop-again c = (
+  search needs,
+  c .find2 .ensures .0,
+  freeing-turn _ _ _ _ _ _ _ (search needs)
+      (c .before .before .before .before .before .before .before .loop .inv .1) (c .before .before .before .before .before .before .loop-test .taken)
+      (c .before .before .before .before .before .before .before .loop .inv .2) (c .before .before .before .before .release .ensures),
+)
 
 same-length : tie.Need-same-length Inv-loop μ-loop
 same-length c = c .before .loop .inv .2 .long

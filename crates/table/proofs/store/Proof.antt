@@ -19,16 +19,20 @@ shl-bit : tie.Need-shl-bit
 shl-bit c = search needs
 
 mul-copy-into : tie.Need-mul-copy-into
-mul-copy-into c = omega (arith, slot-room (c .before .before .before .before .before .args .size) (c .before .before .before .before .before .args .k) (omega arith))
+mul-copy-into c =
+    omega (arith, slot-room (c .before .before .before .before .before .args .size) (c .before .before .before .before .before .args .k) (omega arith))
 
 add-copy-into : tie.Need-add-copy-into
-add-copy-into c = omega (arith, slot-room (c .before .before .before .before .before .args .size) (c .before .before .before .before .before .args .k) (omega arith))
+add-copy-into c =
+    omega (arith, slot-room (c .before .before .before .before .before .args .size) (c .before .before .before .before .before .args .k) (omega arith))
 
 add-copy-into-2 : tie.Need-add-copy-into-2
-add-copy-into-2 c = omega (arith, slot-room (c .before .before .before .before .before .args .size) (c .before .before .before .before .before .args .k) (omega arith))
+add-copy-into-2 c =
+    omega (arith, slot-room (c .before .before .before .before .before .args .size) (c .before .before .before .before .before .args .k) (omega arith))
 
 copy-into-requires : tie.Need-copy-into-requires
-copy-into-requires c κs = omega (arith, slot-room (c .before .before .before .before .before .args .size) (c .before .before .before .before .before .args .k) (omega arith))
+copy-into-requires c κs =
+    omega (arith, slot-room (c .before .before .before .before .before .args .size) (c .before .before .before .before .before .args .k) (omega arith))
 
 cast-put32 : tie.Need-cast-put32
 cast-put32 c = or-fits (c .before .before .before .before .before .u32-at .result) _ (omega arith) (omega arith)
@@ -40,7 +44,12 @@ same-length : tie.Need-same-length
 same-length c = search needs
 
 returns : tie.Need-returns
-returns c = store-done _ _ _ _ _ _ _ _ (search needs) (c .before .before .before .before .before .before .before .before .before .before .before .before .pre .1) (search needs) (search needs) (c .before .before .before .before .before .before .before .before .u32-at .ensures .0) (c .before .before .before .before .before .before .before .before .u32-at .ensures .1) (c .before .before .before .before .before .before .copy-into .ensures) (c .before .before .put32 .ensures)
+returns c =
+    store-done _ _ _ _ _ _ _ _ (search needs)
+    (c .before .before .before .before .before .before .before .before .before .before .before .before .pre .1) (search needs) (search needs)
+    (c .before .before .before .before .before .before .before .before .u32-at .ensures .0)
+    (c .before .before .before .before .before .before .before .before .u32-at .ensures .1)
+    (c .before .before .before .before .before .before .copy-into .ensures) (c .before .before .put32 .ensures)
 
 pub store-spec : {M : Type 1} → statement M
 store-spec =

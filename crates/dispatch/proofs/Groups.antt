@@ -1,43 +1,20 @@
--- The codes of the commands, in groups: which function serves a code.
-use Prim.Native.Nat.{ℕ, _+_}
+-- Laws of the groups of codes: which group a code is of, and that a code of none of them has no rule.
+use Prim.Native.Nat.{ℕ}
 use mathlib.Core.Path.{_≡_, refl, sym, _∙_}
-use mathlib.Core.Bool.{Bool, true, false, _&&_, _||_, not}
+use mathlib.Core.Bool.{Bool, true, false, _&&_, _||_}
 use mathlib.Core.List.{List, [], _∷_, _++_}
 use mathlib.Core.Option.{Option, none, some}
 use lib.Dec.{eqb}
 use borrow.Author.Tests.{eq-eqb, ne-eqb}
+use Rattle.model.specs.Codes as Codes
 use Rattle.model.specs.Rules.{Rule}
 use Rattle.model.specs.Commands.{Row, rows, find, rule}
 use Rattle.model.specs.Proof.Tests.{no-way, equal, and-true, or-false}
-
--- the code is one of those listed
-unfoldable pub member : ℕ → List ℕ → Bool
-member code [] = false
-member code (c ∷ cs) = eqb code c || member code cs
+use Rattle.dispatch.specs.Groups.{member, settingsCodes, keyCodes, deviceCodes, informationCodes, controllerCodes}
 
 -- 0x0001 to 0x0003, to no controller
 unfoldable pub generalCodes : List ℕ
-generalCodes = 0x0001 ∷ 0x0002 ∷ 0x0003 ∷ []
-
--- settings
-unfoldable pub settingsCodes : List ℕ
-settingsCodes = 0x0005 ∷ 0x0006 ∷ 0x0007 ∷ 0x0009 ∷ 0x000D ∷ 0x002B ∷ []
-
--- keys
-unfoldable pub keyCodes : List ℕ
-keyCodes = 0x0012 ∷ 0x0013 ∷ 0x0030 ∷ 0x001B ∷ []
-
--- UUIDs, blocked devices, devices
-unfoldable pub deviceCodes : List ℕ
-deviceCodes = 0x0010 ∷ 0x0011 ∷ 0x0026 ∷ 0x0027 ∷ 0x0033 ∷ 0x0034 ∷ []
-
--- information and name
-unfoldable pub informationCodes : List ℕ
-informationCodes = 0x0004 ∷ 0x000F ∷ []
-
--- the commands to a controller
-unfoldable pub controllerCodes : List ℕ
-controllerCodes = settingsCodes ++ (keyCodes ++ (deviceCodes ++ informationCodes))
+generalCodes = Codes.readVersion ∷ Codes.readCommands ∷ Codes.readIndexes ∷ []
 
 -- of a list with a code left out, the others
 pub member-rest : (code c : ℕ) (cs : List ℕ) → member code (c ∷ cs) ≡ true → (code ≡ c → ⊥) → member code cs ≡ true
@@ -74,10 +51,16 @@ or-nothing true = refl
 or-nothing false = refl
 
 -- a controller's code is one of the four groups
-pub controller-groups : (code : ℕ) → member code controllerCodes ≡ member code settingsCodes || (member code keyCodes || (member code deviceCodes || member code informationCodes))
+pub controller-groups : (code : ℕ) → member code controllerCodes ≡ member code settingsCodes
+    || (member code keyCodes || (member code deviceCodes || member code informationCodes))
 unfolding controllerCodes
 controller-groups code =
-    rw (member-append code settingsCodes (keyCodes ++ (deviceCodes ++ informationCodes)), member-append code keyCodes (deviceCodes ++ informationCodes), member-append code deviceCodes informationCodes)
+    rw (
+      member-append code settingsCodes (keyCodes ++ (deviceCodes ++ informationCodes)),
+      member-append code keyCodes
+          (deviceCodes ++ informationCodes),
+      member-append code deviceCodes informationCodes,
+    )
 
 -- the rule of a code --------------------------------------------------------------------------------------------------------------------------
 
@@ -95,7 +78,8 @@ find-none code (r ∷ rs) e = go (eqb (r .0) code) refl (λ k. find-none code rs
     a : (eqb code (r .0) ≡ false) × (member code (codesOf rs) ≡ false)
     a = or-false (eqb code (r .0)) (member code (codesOf rs)) e
 
-    go : (b : Bool) → eqb (r .0) code ≡ b → (member code (codesOf rs) ≡ false → find code rs ≡ none) → _≡_ {A = Option Rule} (elim b [ true ↦ some (r .1) | false ↦ find code rs ]) none
+    go : (b : Bool) → eqb (r .0) code ≡ b → (member code (codesOf rs) ≡ false → find code rs ≡ none)
+        → _≡_ {A = Option Rule} (elim b [ true ↦ some (r .1) | false ↦ find code rs ]) none
     go true q k = no-way (sym (eq-eqb code (r .0) (sym (equal (r .0) code q))) ∙ a .0)
     go false q k = k (a .1)
 
