@@ -25,8 +25,8 @@ fn index_event(reply: &mut [u8], at: usize, code: u64, index: u64)
     requires { ⌜ at + 6 ≤ length (now reply) ⌝ }
     ensures { λ _. ⌜ now (reply .exit) ≡ writeAt (now (reply .entry)) at (Octets.event code index []) ⌝ }
 {
-    let noReason: [u8; 1] = [0];
-    replies::event_part(reply, at, code, index, &noReason, 0, 0);
+    let none: [u8; 1] = [0];
+    replies::event_part(reply, at, code, index, &none, 0, 0);
 }
 
 // Unplugs the controller at an index: the command under way there is told Invalid Index, Index Removed comes behind, and the index is empty.

@@ -133,14 +133,14 @@ module _ (c : Controller) (s : Octets) (at : ℕ) (ps : Octets) (w : bytes s ≡
   unfolding openWith openOctetsOk openOk
   open-is = go (eqb (u16 s at) 0) refl
     where
-      noReason : eqb (u16 s at) 0 ≡ true → openOk (some c) none && same (part s at 5) (openPart none) ≡ allZero (part s (at + 2) 3)
-      noReason f = none-is s at w h (eqb-true (u16 s at) 0 f)
+      nothing : eqb (u16 s at) 0 ≡ true → openOk (some c) none && same (part s at 5) (openPart none) ≡ allZero (part s (at + 2) 3)
+      nothing f = none-is s at w h (eqb-true (u16 s at) 0 f)
 
       go : (x : Bool) → eqb (u16 s at) 0 ≡ x
           → openOk (some c) (elim x [ true ↦ none | false ↦ some (record { code = u16 s at; params = take (sizeOf (rule (u16 s at))) ps }) ])
           && same (part s at 5) (openPart (elim x [ true ↦ none | false ↦ some (record { code = u16 s at; params = take (sizeOf (rule (u16 s at))) ps }) ]))
           ≡ elim x [ true ↦ allZero (part s (at + 2) 3) | false ↦ startedOctetsOk (c .radio) (u16 s at) (part s (at + 2) 3) ]
-      go true f = noReason f
+      go true f = nothing f
       go false f = started-is _ refl
 
 -- 3. By code ------------------------------------------------------------------------------------------------------------------------------------

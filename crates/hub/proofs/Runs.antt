@@ -3,21 +3,22 @@
 use Prim.Native.Nat.{ℕ, _+_, _*_, _/_, _%_, _^_, _≤_, _<_}
 use native.Mathlib.Omega.{arith}
 use mathlib.Core.Path.{_≡_, refl, sym, ap, _∙_}
-use mathlib.Core.Bool.{true}
+use mathlib.Core.Bool.{Bool, true, false, _||_}
 use mathlib.Core.List.{List, [], _∷_, _++_, map}
-use lib.ListN.{length, take, drop}
+use lib.ListN.{length, drop, replicate, length-replicate}
 use lib.Seq.{take-append-seam}
-use lib.Dec.{ltb}
+use lib.Dec.{eqb, ltb}
 use borrow.Author.Tests.{lt-ltb}
 use Rattle.model.specs.Octets.{Octets, bytes}
 use Rattle.model.specs.Hub.{Call, Result}
 use Rattle.model.specs.WellFormed.{callWide, callsWide}
 use Rattle.model.specs.Meanings.{hubClock, hubCommand, hubLoad, hubPlug, hubReport, hubSave, hubUnplug, meaning}
-use Rattle.model.specs.Demand3.{Entry, after, entry, trace}
+use Rattle.model.specs.Written.{loadAnswer}
+use Rattle.model.specs.Demand3.{after, entry, trace}
 use Rattle.model.specs.Theorems.{answers-are-eight, count-fits, demand-3, load-writes-nothing}
-use Rattle.model.specs.Proof.Tests.{both}
+use Rattle.model.specs.Proof.Tests.{and-true, both, equal, no-way}
 use Rattle.hub.specs.Entries.{Returns}
-use Rattle.hub.specs.Runs.{Demand3OfRuns, Loads, Run, Seen, Step, answerIn, countIn, ends, entryOf, names, octetsIn, step}
+use Rattle.hub.specs.Runs.{CountsTrue, Demand3OfRuns, EveryListRuns, Run, Seen, Step, answerIn, countIn, ends, entryOf, names, octetsIn, step}
 use Rattle.hub.specs.Runs as Runs
 
 -- 1. What a number says -------------------------------------------------------------------------------------------------------------------------
@@ -41,13 +42,14 @@ seen-is s c r before reply left k =
 record StepOf (s : Octets) (c : Call) (r : ℕ) (reply left : Octets) : Type 0 where
   wide : callWide c ≡ true
   seen : entry c (answerIn r) (octetsIn r reply) ≡ entry c (meaning s c .answer) (meaning s c .octets)
+  count : countIn r ≡ length (octetsIn r reply)
   state : left ≡ meaning s c .state
 
 -- a contract is such a step
 step-by : (s : Octets) (c : Call) (r : ℕ) (before reply left : Octets) → callWide c ≡ true → Returns (meaning s c) r before reply left → StepOf s c r reply left
 step-by s c r before reply left w k =
     let b = seen-is s c r before reply left k in
-    record { wide = w; seen = rw (b .0, b .2); state = k .state }
+    record { wide = w; seen = rw (b .0, b .2); count = b .1 ∙ sym (ap (λ (o : Octets). length o) (b .2)); state = k .state }
 
 -- each of the six
 step-of : (s : Octets) (c : Call) (r : ℕ) (reply left : Octets) → Step s c r reply left → StepOf s c r reply left
@@ -69,30 +71,38 @@ callsOf xs = map (λ (x : Seen). x .call) xs
 record RunOf (s : Octets) (xs : List Seen) (end : Octets) : Type 0 where
   wide : callsWide (callsOf xs) ≡ true
   seen : map entryOf xs ≡ trace meaning s (callsOf xs)
+  counts : CountsTrue xs
   state : end ≡ after meaning s (callsOf xs)
 
 -- a step before a run
 run-more : (s next end : Octets) (x : Seen) (xs : List Seen) → StepOf s (x .call) (x .returned) (x .reply) next → RunOf next xs end → RunOf s (x ∷ xs) end
-unfolding callsOf callsWide trace after entryOf
+unfolding callsOf callsWide trace after entryOf CountsTrue
 run-more s next end x xs a b = record {
   wide = both (a .wide) (b .wide);
   seen = rw (a .seen, b .seen, a .state);
+  counts = (a .count, b .counts);
   state = rw (b .state, a .state);
 }
 
 -- every run
 run-of : (s end : Octets) (xs : List Seen) → Run s xs end → RunOf s xs end
-unfolding callsOf callsWide trace after
-run-of s end xs ends = record { wide = refl; seen = refl; state = refl }
+unfolding callsOf callsWide trace after CountsTrue
+run-of s end xs ends = record { wide = refl; seen = refl; counts = tt; state = refl }
 run-of s end xs (names index which r k more) = run-of s end xs more
 run-of s end (x ∷ xs) (step {next = n} k more) = run-more s n end x xs (step-of s (x .call) (x .returned) (x .reply) n k) (run-of n end xs more)
 
 -- 4. Demand 3 -----------------------------------------------------------------------------------------------------------------------------------
 
 -- a load whose number has answer 0 returned 0
-taken-by : (n r : ℕ) → r ≡ n → n ≤ 7 → answerIn r ≡ 0 → n ≡ 0
-unfolding answerIn
-taken-by n r e k z = omega arith
+taken-by : (n r : ℕ) → r ≡ n → loadAnswer n ≡ true → answerIn r ≡ 0 → n ≡ 0
+unfolding answerIn loadAnswer
+taken-by n r e k z = go (eqb n 0) (eqb n 5) (eqb n 7) refl refl refl k
+  where
+    go : (a b c : Bool) → eqb n 0 ≡ a → eqb n 5 ≡ b → eqb n 7 ≡ c → a || (b || c) ≡ true → n ≡ 0
+    go true b c p q x k = equal n 0 p
+    go false true c p q x k = let m = equal n 5 q in absurd (omega arith)
+    go false false true p q x k = let m = equal n 7 x in absurd (omega arith)
+    go false false false p q x k = no-way (sym k)
 
 -- DEMAND 3 OF EVERY RUN of the exported functions from a state that hub_load made
 pub demand-3-of-runs : Demand3OfRuns
@@ -100,4 +110,4 @@ demand-3-of-runs buffer image s end r xs b l z run =
     let k = run-of s end xs run in
     let a : hubLoad buffer image .answer ≡ 0 = taken-by (hubLoad buffer image .answer) r (l .number) (load-writes-nothing buffer image .0) z in
     let d = demand-3 buffer image (callsOf xs) b (k .wide) a in
-    rw (k .seen, k .state, l .state) d
+    (k .counts, rw (k .seen, k .state, l .state) d)

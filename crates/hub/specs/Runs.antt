@@ -9,10 +9,10 @@ use Rattle.model.specs.declared.Hardware.{Hardware}
 use Rattle.model.specs.Octets.{Octets, bytes}
 use Rattle.model.specs.Hub.{Call}
 use Rattle.model.specs.Hub as Hub
-use Rattle.model.specs.WellFormed.{hardwareWide}
+use Rattle.model.specs.WellFormed.{callsWide, hardwareWide}
 use Rattle.model.specs.Layout.{cleared}
-use Rattle.model.specs.Meanings.{hubClock, hubCommand, hubLoad, hubName, hubPlug, hubReport, hubSave, hubUnplug, plainMeaning}
-use Rattle.model.specs.Demand3.{Agrees, Entry, entry, noPending, reduce}
+use Rattle.model.specs.Meanings.{hubClock, hubCommand, hubLoad, hubName, hubPlug, hubReport, hubSave, hubUnplug, meaning, plainMeaning}
+use Rattle.model.specs.Demand3.{Agrees, Entry, after, entry, noPending, reduce}
 use Rattle.hub.specs.Entries.{Returns}
 
 -- What a host reads ---------------------------------------------------------------------------------------------------------------------------
@@ -79,8 +79,18 @@ pub record Loads (buffer image : Octets) (r : ℕ) (s : Octets) : Type 0 where
   pub number : r ≡ hubLoad buffer image .answer
   pub state : s ≡ hubLoad buffer image .state
 
--- For any state that hub_load made and any run from it: the at-once hub, given what is left of the calls by the numbers and buffers seen, answers and
--- writes the same, and ends in the same state once open commands are cleared.
+-- every count seen is the number of octets written
+unfoldable pub CountsTrue : List Seen → Type 0
+CountsTrue [] = Unit
+CountsTrue (x ∷ xs) = (countIn (x .returned) ≡ length (octetsIn (x .returned) (x .reply))) × CountsTrue xs
+
+-- For any state that hub_load made and any run from it: every count is the number of octets written; and the at-once hub, given what is left of the calls
+-- by the numbers and buffers seen, answers and writes the same, and ends in the same state once open commands are cleared.
 abbrev pub Demand3OfRuns : Type 0
 Demand3OfRuns = (buffer image s end : Octets) (r : ℕ) (xs : List Seen) → bytes image ≡ true → Loads buffer image r s → answerIn r ≡ 0 → Run s xs end
-    → Agrees plainMeaning s (reduce noPending (map entryOf xs)) (cleared end)
+    → CountsTrue xs × Agrees plainMeaning s (reduce noPending (map entryOf xs)) (cleared end)
+
+-- Runs are there: any calls with arguments as wide as their types can be made one after the other, on any octets as state.
+abbrev pub EveryListRuns : Type 0
+EveryListRuns = (s : Octets) (calls : List Call) → callsWide calls ≡ true
+    → (xs : List Seen) × (map (λ (x : Seen). x .call) xs ≡ calls) × Run s xs (after meaning s calls)

@@ -9,7 +9,7 @@ use mathlib.Core.Option.{some}
 use lib.ListN.{length, drop}
 use lib.Dec.{eqb, leb, ltb, lit≤}
 use Rattle.model.specs.Lengths as Lengths
-use Rattle.model.specs.Octets.{Octets, bytes, octet, open-octets}
+use Rattle.model.specs.Octets.{Octets, bytes, octet, open-octets, usedPart}
 use Rattle.model.specs.State.{Hub, PlainHub, idle, open-state}
 use Rattle.model.specs.Reasons.{open-reasons}
 use Rattle.model.specs.Tables.{open-tables}
@@ -19,14 +19,14 @@ use Rattle.model.specs.Hub.{Call, Outcome, Result, answerOf, call, callP
 use Rattle.model.specs.WellFormed.{callWide, open-wellformed, plainOk, wellFormed}
 use Rattle.model.specs.Layout.{decode, encode}
 use Rattle.model.specs.Meanings.{badState, hubLoad, hubName, hubSave, laidOut, loadMeaning, loadedInto, meaning, stateOk}
-use Rattle.model.specs.Written.{OneReply, Written, roomOf}
+use Rattle.model.specs.Written.{NameAnswer, OneReply, Written, loadAnswer, roomOf}
 use Rattle.model.specs.Demand3.{Demand3}
 use Rattle.model.specs.Examples.{dualHardware, fullController, fullHub, fullTable, records}
 use Rattle.model.specs.Proof.Decode.{decode-encode}
 use Rattle.model.specs.Proof.Demand3.{demand3, encode-ok, idle-ok, meaning-is, state-back, state-well, taken}
 use Rattle.model.specs.Proof.Keeps.{keeps-state, load-refused-same, load-state, refused-same, state-exact}
 use Rattle.model.specs.Proof.Load.{load-ok}
-use Rattle.model.specs.Proof.Names.{name-most, name-no-zero, name-same}
+use Rattle.model.specs.Proof.Names.{name-answered, name-most, name-no-zero, name-same, used-ends}
 use Rattle.model.specs.Proof.Room.{notSave, room-state}
 use Rattle.model.specs.Proof.RoundTrip.{image-most, load-image}
 use Rattle.model.specs.Proof.SavedAgain.{saved-again}
@@ -146,7 +146,7 @@ commands-listed = refl
 
 -- What is written ----------------------------------------------------------------------------------------------------------------------------
 
--- Every call writes what its answer lets it write: nothing, one status reply, or its reply and events.
+-- Every call writes what its answer lets it write: nothing, one status reply, or, where it is done, what its rule gives.
 pub answer-says-what-is-written : (s : Octets) (c : Call) → Written c (meaning s c .answer) (meaning s c .octets)
 answer-says-what-is-written = state-written
 
@@ -162,8 +162,8 @@ refused-writes-one-reply s c = one-reply c _ _ (state-written s c)
 pub answers-are-eight : (s : Octets) (c : Call) → meaning s c .answer ≤ 7
 answers-are-eight s c = to-seven c _ _ (state-written s c)
 
--- Load answers one of 0 to 7 and writes nothing but the state.
-pub load-writes-nothing : (buffer image : Octets) → (hubLoad buffer image .answer ≤ 7) × (hubLoad buffer image .octets ≡ [])
+-- Load answers 0, 5 or 7 and writes nothing but the state.
+pub load-writes-nothing : (buffer image : Octets) → (loadAnswer (hubLoad buffer image .answer) ≡ true) × (hubLoad buffer image .octets ≡ [])
 load-writes-nothing = load-written
 
 -- Room ----------------------------------------------------------------------------------------------------------------------------------------
@@ -201,6 +201,14 @@ name-changes-nothing = name-same
 -- At most 248 octets are told of a name.
 pub no-name-longer : (s : Octets) (index which room : ℕ) → length (hubName s index which room .octets) ≤ 248
 no-name-longer = name-most
+
+-- It is answered 0, 4, 5 or 6, and only with 0 anything is written.
+pub names-answered : (s : Octets) (index which room : ℕ) → NameAnswer (hubName s index which room .answer) (hubName s index which room .octets)
+names-answered = name-answered
+
+-- The used part of a name ends where a zero stands, or with the name.
+pub used-part-ends : (name : Octets) → length (usedPart name) < length name → octet name (length (usedPart name)) ≡ 0
+used-part-ends = used-ends
 
 -- No zero octet is among them.
 pub no-zero-in-a-name : (s : Octets) (index which room k : ℕ) → k < length (hubName s index which room .octets)

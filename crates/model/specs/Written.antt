@@ -1,7 +1,7 @@
 -- What a call writes with each of its answers: the column of 01's table of answers that says so, as a claim over number and octets.
 use Prim.Native.Nat.{ℕ}
 use mathlib.Core.Path.{_≡_}
-use mathlib.Core.Bool.{Bool, true, _||_}
+use mathlib.Core.Bool.{Bool, true, false, _||_}
 use mathlib.Core.List.{[]}
 use lib.ListN.{length, take}
 use lib.Dec.{eqb}
@@ -9,8 +9,8 @@ use Rattle.model.specs.Lengths as Lengths
 use Rattle.model.specs.Statuses as Statuses
 use Rattle.model.specs.Codes as Codes
 use Rattle.model.specs.Octets.{Octets, commandComplete, commandStatus}
-use Rattle.model.specs.Answers.{numberOf, Done, Started, Refused, BadPacket, SmallBuffer, BadState, BadArgument}
-use Rattle.model.specs.Reasons.{Reason, statusOf}
+use Rattle.model.specs.Answers.{numberOf, Done, Started, Refused, BadPacket, SmallBuffer, BadState, BadArgument, BadImage}
+use Rattle.model.specs.Reasons.{Reason, statusOf, codeUnknown, controllerAbsent, indexNotNone, lengthWrong}
 use Rattle.model.specs.Hub.{Call, command, report, clock, plug, unplug, save, codeOf, indexOf, paramsOf}
 
 -- the octets of reply buffer that a call asks for, whatever it will write (01, What a call answers, 4)
@@ -31,21 +31,43 @@ addressCommand code =
     || (eqb code Codes.addDevice
     || eqb code Codes.removeDevice)))
 
--- the status of a refusal: that of a reason, or Busy
-pub data RefusalStatus : ℕ → Type 0 where
-  -- one of the conditions that a command fails
-  because : (r : Reason) → RefusalStatus (statusOf r)
-  -- a command is under way at its index
-  busy : RefusalStatus Statuses.busy
+-- the five settings commands that can be Busy (01, Commands, paragraph on settings)
+unfoldable pub busyCommand : ℕ → Bool
+busyCommand code =
+    eqb code Codes.setPowered
+    || (eqb code Codes.setDiscoverable
+    || (eqb code Codes.setConnectable
+    || (eqb code Codes.setLowEnergy
+    || eqb code Codes.setStaticAddress)))
 
--- The one reply to a refused command, with the code and index of its packet: Command Status; or, only of an address command, Command Complete with
--- the address and type of its packet (01, Order inside a command).
+-- the reasons that stand before all others: code, index, length of the parameters (01, Order inside a command)
+pub data UpToLength : Reason → Type 0 where
+  unknownCode : UpToLength codeUnknown
+  wrongIndex : UpToLength indexNotNone
+  noController : UpToLength controllerAbsent
+  wrongLength : UpToLength lengthWrong
+
+-- The one reply to a refused command, with the code and index of its packet (01, Order inside a command).
 pub data StatusReply (packet : Octets) : Octets → Type 0 where
-  -- by Command Status
-  byCommandStatus : {status : ℕ} → RefusalStatus status → StatusReply packet (commandStatus (indexOf packet) (codeOf packet) status)
-  -- by Command Complete
-  byCommandComplete : {status : ℕ} → addressCommand (codeOf packet) ≡ true → RefusalStatus status
-      → StatusReply packet (commandComplete (indexOf packet) (codeOf packet) status (take 7 (paramsOf packet)))
+  -- Command Status with the status of a reason, of a command that is no address command
+  byCommandStatus : (r : Reason) → addressCommand (codeOf packet) ≡ false
+      → StatusReply packet (commandStatus (indexOf packet) (codeOf packet) (statusOf r))
+  -- Command Status of any command, for its code, its index or its length
+  upToLength : {r : Reason} → UpToLength r → StatusReply packet (commandStatus (indexOf packet) (codeOf packet) (statusOf r))
+  -- Command Complete with the address and type of the packet, only of an address command
+  byCommandComplete : (r : Reason) → addressCommand (codeOf packet) ≡ true
+      → StatusReply packet (commandComplete (indexOf packet) (codeOf packet) (statusOf r) (take 7 (paramsOf packet)))
+  -- Busy, only of a settings command that can be
+  busy : busyCommand (codeOf packet) ≡ true → StatusReply packet (commandStatus (indexOf packet) (codeOf packet) Statuses.busy)
+
+-- the calls whose arguments can be wrong: report, clock, plug, unplug (01, What a call answers, row 6)
+unfoldable pub hasArgument : Call → Bool
+hasArgument (command room packet) = false
+hasArgument (report room i s) = true
+hasArgument (clock room reading) = true
+hasArgument (plug room i f) = true
+hasArgument (unplug room i) = true
+hasArgument (save room) = false
 
 -- what a call that is refused writes: the call is a command, and its one reply is all
 pub data OneReply : Call → Octets → Type 0 where
@@ -53,7 +75,7 @@ pub data OneReply : Call → Octets → Type 0 where
 
 -- What a call may write with the number it answers. Only a command is started or refused, and only a command's packet is bad.
 pub data Written : Call → ℕ → Octets → Type 0 where
-  -- 0: its reply and events
+  -- 0: what its rule gives
   done : {c : Call} {o : Octets} → Written c (numberOf (Done (length o))) o
   -- 1: nothing
   started : {room : ℕ} {packet : Octets} → Written (command room packet) (numberOf Started) []
@@ -64,4 +86,15 @@ pub data Written : Call → ℕ → Octets → Type 0 where
   -- 4, 5 and 6: nothing
   smallBuffer : {c : Call} → Written c (numberOf SmallBuffer) []
   badState : {c : Call} → Written c (numberOf BadState) []
-  badArgument : {c : Call} → Written c (numberOf BadArgument) []
+  badArgument : {c : Call} → hasArgument c ≡ true → Written c (numberOf BadArgument) []
+
+-- what is answered to a host that asks for a name, and what is written: the name's used part, or nothing
+pub data NameAnswer : ℕ → Octets → Type 0 where
+  told : {o : Octets} → NameAnswer (numberOf (Done (length o))) o
+  noRoom : NameAnswer (numberOf SmallBuffer) []
+  badState : NameAnswer (numberOf BadState) []
+  wrong : NameAnswer (numberOf BadArgument) []
+
+-- what load answers: done, a state buffer of another length, or an image that it does not take
+unfoldable pub loadAnswer : ℕ → Bool
+loadAnswer n = eqb n (numberOf (Done 0)) || (eqb n (numberOf BadState) || eqb n (numberOf BadImage))
