@@ -138,13 +138,13 @@ act-loads l i c ps e = rw e
 -- 4. The ways out of `load_list` ------------------------------------------------------------------------------------------------------------------------
 
 -- the length that the model asks for
-pub list-sized : (k at : ℕ) (fine : Bool) (ps : Octets) → ListOf k at fine ps → loadKeys (keyList k) .size ps ≡ true
+pub list-sized : (k at : ℕ) (valid : Bool) (ps : Octets) → ListOf k at valid ps → loadKeys (keyList k) .size ps ≡ true
 unfolding loadKeys
-list-sized k at fine ps g = rw (← g .place, rule-is k (g .least) (g .most)) (eq-eqb (length ps) (at + 2 + ruleAt k .size * u16 ps at) (g .long))
+list-sized k at valid ps g = rw (← g .place, rule-is k (g .least) (g .most)) (eq-eqb (length ps) (at + 2 + ruleAt k .size * u16 ps at) (g .long))
 
 -- the records lie in the packet
-pub list-inside : (k at n : ℕ) (fine : Bool) (ps : Octets) → ListOf k at fine ps → n ≡ u16 ps at → at + 2 + ruleAt k .size * n ≤ length ps
-list-inside k at n fine ps g en = rw en (omega (arith, g .long))
+pub list-inside : (k at n : ℕ) (valid : Bool) (ps : Octets) → ListOf k at valid ps → n ≡ u16 ps at → at + 2 + ruleAt k .size * n ≤ length ps
+list-inside k at n valid ps g en = rw en (omega (arith, g .long))
 
 -- and the table in the state
 pub load-room : (i k place size : ℕ) (s : Octets) → length s ≡ Lengths.state → i < 4 → k < 6 → place ≡ tablePlace i k → size ≡ ruleAt k .size
@@ -156,8 +156,8 @@ no-parameters : (i code : ℕ) (ps : Octets) → commandComplete i code 0 (part 
 unfolding part
 no-parameters i code ps = rw append-nil
 
-module _ (s : Octets) (i code k at n : ℕ) (fine : Bool) (ps d d′ : Octets) (r : Answer) (given : Ready s i) (big : Lengths.replyBuffer ≤ length d)
-    (g : ListOf k at fine ps) (en : n ≡ u16 ps at) where
+module _ (s : Octets) (i code k at n : ℕ) (valid : Bool) (ps d d′ : Octets) (r : Answer) (given : Ready s i) (big : Lengths.replyBuffer ≤ length d)
+    (g : ListOf k at valid ps) (en : n ≡ u16 ps at) where
   -- the controller that the list is for
   abbrev here : Controller
   here = controllerOf s i
@@ -179,7 +179,7 @@ module _ (s : Octets) (i code k at n : ℕ) (fine : Bool) (ps d d′ : Octets) (
       → Gives (immediateCommand s i code ps (loadKeys (keyList k))) r d d′ s
   unfolding loadKeys
   refuses status x m w =
-      immediate-status s i code ps (loadKeys (keyList k)) d d′ r given big (list-sized k at fine ps g) (x .reason) refl
+      immediate-status s i code ps (loadKeys (keyList k)) d d′ r given big (list-sized k at valid ps g) (x .reason) refl
       (act-refuses (keyList k) i here ps (x .reason) (x .first)) m (rw (x .told) w)
 
   -- a count above 32: No Resources
@@ -195,23 +195,23 @@ module _ (s : Octets) (i code k at n : ℕ) (fine : Bool) (ps d d′ : Octets) (
       }) m w
 
   -- the head fails: Invalid Parameters
-  pub head-refuses : n ≤ 32 → fine ≡ false → r ≡ Refused 9 → d′ ≡ writeAt d 0 (commandStatus i code Statuses.invalidParameters)
+  pub head-refuses : n ≤ 32 → valid ≡ false → r ≡ Refused 9 → d′ ≡ writeAt d 0 (commandStatus i code Statuses.invalidParameters)
       → Gives (immediateCommand s i code ps (loadKeys (keyList k))) r d d′ s
   head-refuses h e m w =
       refuses Statuses.invalidParameters (head-fails (keyList k) (here .radio .hardware) ps (u16 ps (keyList k .countAt)) (recordsOf (keyList k) ps)
       Statuses.invalidParameters (rw count-is h)
       (fails-with Statuses.invalidParameters (keyList k .headChecks ps) (head-status k ps) (sym (g .head) ∙ e))) m w
 
-  -- the head is fine: the model's checks of it pass
-  head-passes : fine ≡ true → passes (keyList k .headChecks ps) ≡ true
+  -- the head is valid: the model's checks of it pass
+  head-passes : valid ≡ true → passes (keyList k .headChecks ps) ≡ true
   head-passes e = sym (g .head) ∙ e
 
-  -- whether the values are fine is whether the model's checks of them pass
+  -- whether the values are valid is whether the model's checks of them pass
   values-are : (v : Bool) → v ≡ passes (valueChecks (ruleAt k) list) → passes (valueChecks (keyList k .rule) (recordsOf (keyList k) ps)) ≡ v
   values-are v e = sym (rw (records-are, rule-is k (g .least) (g .most)) e)
 
   -- a value fails or a record is repeated: Invalid Parameters
-  pub values-refuse : n ≤ 32 → fine ≡ true → (v : Bool) → v ≡ passes (valueChecks (ruleAt k) list) → v ≡ false → r ≡ Refused 9
+  pub values-refuse : n ≤ 32 → valid ≡ true → (v : Bool) → v ≡ passes (valueChecks (ruleAt k) list) → v ≡ false → r ≡ Refused 9
       → d′ ≡ writeAt d 0 (commandStatus i code Statuses.invalidParameters) → Gives (immediateCommand s i code ps (loadKeys (keyList k))) r d d′ s
   values-refuse h e v ev f m w =
       refuses Statuses.invalidParameters (values-fail (keyList k) (here .radio .hardware) ps (u16 ps (keyList k .countAt)) (recordsOf (keyList k) ps)
@@ -219,8 +219,8 @@ module _ (s : Octets) (i code k at n : ℕ) (fine : Bool) (ps d d′ : Octets) (
       (fails-with Statuses.invalidParameters (valueChecks (keyList k .rule) (recordsOf (keyList k) ps))
       (values-status (keyList k .rule) (record-status k) (recordsOf (keyList k) ps)) (values-are v ev ∙ f))) m w
 
-  -- the values are fine: support tells
-  module _ (h : n ≤ 32) (e : fine ≡ true) (v : Bool) (ev : v ≡ passes (valueChecks (ruleAt k) list)) (good : v ≡ true) (f : Hardware)
+  -- the values are valid: support tells
+  module _ (h : n ≤ 32) (e : valid ≡ true) (v : Bool) (ev : v ≡ passes (valueChecks (ruleAt k) list)) (good : v ≡ true) (f : Hardware)
       (ef : f ≡ here .radio .hardware) (q : Bool)
       (eq : (x : Hardware) → x .supported ≡ f .supported → q ≡ passes (ruleAt k .support x)) where
     -- so the first check that fails is one of support, if any does
@@ -250,10 +250,10 @@ module _ (s : Octets) (i code k at n : ℕ) (fine : Bool) (ps d d′ : Octets) (
         let b : loadKeys (keyList k) .act i here ps ≡ done [] [] (withTable (here .host) k (loaded list)) = a
         ∙ rw (records-are, table-is k (g .least) (g .most)) in
         let long : length (loaded list) ≡ 32 = length-loaded list (rw (length-chop (ruleAt k .size) n (drop (at + 2) ps)) h) in
-        let inside = list-inside k at n fine ps g en in
+        let inside = list-inside k at n valid ps g en in
         let st : s′ ≡ encode (putController (decode s) i (withHost here (withTable (here .host) k (loaded list)))) =
         es ∙ rw (ep, ez) (table-stored s i given k (omega (arith, g .most)) (loaded list) long (sized-loaded (ruleAt k .size) n ps (at + 2) inside)) in
-        immediate-done s i code ps (loadKeys (keyList k)) d d′ r given big (list-sized k at fine ps g) s′ [] [] (withTable (here .host) k (loaded list)) 9 b m
+        immediate-done s i code ps (loadKeys (keyList k)) d d′ r given big (list-sized k at valid ps g) s′ [] [] (withTable (here .host) k (loaded list)) 9 b m
         (rw append-nil (length-complete i code 0 [])) (omega arith) (w ∙ rw (no-parameters i code ps)) st
 
 -- 5. The three commands ---------------------------------------------------------------------------------------------------------------------------------

@@ -1,5 +1,4 @@
 -- `hub::hub_name` meets its contract.
-use Prim.Native.Nat.{_-_}
 use borrow.Author.Needs.{needs}
 use Rattle.hub.proofs.Entries.{returns-packed}
 use Rattle.hub.proofs.Bridge.{name-count}

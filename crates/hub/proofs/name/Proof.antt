@@ -1,6 +1,5 @@
 -- `hub::name` meets its contract.
 use mathlib.Core.Path.{sym, _∙_}
-use Prim.Native.Nat.{_-_}
 use borrow.Author.Needs.{needs}
 use Rattle.hub.proofs.Bridge.{name-bad, name-done, name-no-room}
 use Rattle.hub.proofs.name.Statement.{statement}

@@ -1,6 +1,5 @@
 -- `information::tell_name` meets its contract: a copy of the part that `used_name` hands out.
 use mathlib.Core.Path.{sym, _∙_}
-use Prim.Native.Nat.{_-_}
 use borrow.Author.Needs.{needs}
 use Rattle.model.specs.Proof.Demand3.{state-long}
 use Rattle.layout.proofs.Reading.{present-below}

@@ -1,5 +1,4 @@
 -- `layout::used_name` meets its contract. What is lent to `used_part` is the name or the short name, where it lies.
-use Prim.Native.Nat.{_-_}
 use borrow.Author.Needs.{needs}
 use Rattle.octets.specs.Parts.{part, placeAt}
 use Rattle.layout.specs.Places.{placeOf, sizes}
