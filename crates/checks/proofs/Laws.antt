@@ -33,9 +33,9 @@ use Rattle.rules.specs.Decisions.{decision, isStarted, settingsOk}
 use Rattle.checks.specs.Tests.{and-on}
 use Rattle.checks.specs.Settings.{flagsOctetsOk}
 use Rattle.checks.specs.Present.{blockAt, controllerOctetsOk}
-use Rattle.checks.specs.Slots.{freeZero, zero-rest}
+use Rattle.checks.specs.Slots.{zero-rest}
 use Rattle.checks.specs.Tables.{drop-part, tableOctetsOk, tablesOctetsOk, total, assoc}
-use Rattle.records.specs.Slots.{no-slots, recordsAt}
+use Rattle.records.specs.Slots.{freeZero, no-slots, recordsAt}
 use Rattle.table.specs.Slots.{tableAt}
 use Rattle.checks.specs.Open.{fine-connectable, fine-discoverable, fine-low-energy, fine-none, fine-other, fine-powered, fine-some, openOctetsOk, startedOctetsOk}
 use Rattle.layout.proofs.Tables.{rules-six}
@@ -158,10 +158,6 @@ module _ (x : RadioSettings) (s : Octets) (at code : ℕ) (e : code ≡ u16 s at
 
 -- 4. Tables -----------------------------------------------------------------------------------------------------------------------------------
 
--- where the word is zero, all slots that are left are free
-pub zero-rest-of : (s : Octets) (size at n w : ℕ) → w ≡ 0 → allZero (part s at (size * n)) ≡ freeZero s size at n w
-zero-rest-of s size at n w e = rw e (zero-rest s size at n)
-
 -- a word that is not zero and has no bit above the lowest has the lowest
 odd-one : (w : ℕ) → (w ≡ 0 → ⊥) → w / 2 ≡ 0 → w % 2 ≡ 1
 odd-one zero z q = absurd (z refl)
@@ -181,25 +177,19 @@ some-used size (suc n) w o z l =
     go true e i = refl
     go false e i = let d = eqb-false (w % 2) 1 e in i (λ q. d (odd-one w z q))
 
-module _ (u : TableRule) (f : Hardware) (s : Octets) (at size w : ℕ) (e : size ≡ u .size) (q : w ≡ u32 s at) where
+module _ (u : TableRule) (f : Hardware) (s : Octets) (at w : ℕ) (q : w ≡ u32 s at) where
   -- the records of the table that lies there
   records-are : entries (tableAt s at (u .size)) ≡ recordsAt s (u .size) (at + 4) 32 w
   unfolding tableAt
   records-are = rw q
 
-  -- a free slot is not zero
-  pub table-spoilt : freeZero s size (at + 4) 32 w ≡ false → false ≡ tableOctetsOk u f s at
-  unfolding tableOctetsOk
-  table-spoilt z = let y : freeZero s (u .size) (at + 4) 32 (u32 s at) ≡ false = rw (e, q) at z in
-      sym (rw (y, and-off (supportOk u f (entries (tableAt s at (u .size)))), and-off (recordsOk u (entries (tableAt s at (u .size))))))
-
-  -- no slot is in use
-  pub table-empty : w ≡ 0 → freeZero s size (at + 4) 32 w ≡ true → true ≡ tableOctetsOk u f s at
+  -- no slot is in use: then all are zero
+  pub table-empty : w ≡ 0 → allZero (part s (at + 4) (u .size * 32)) ≡ tableOctetsOk u f s at
   unfolding tableOctetsOk recordsOk supportOk every distinct empty
-  table-empty v z =
-      let y : freeZero s (u .size) (at + 4) 32 (u32 s at) ≡ true = rw (e, q) at z in
+  table-empty v =
       let r : recordsAt s (u .size) (at + 4) 32 w ≡ [] = rw v (no-slots (u .size) 32 (drop (at + 4) s)) in
-      sym (rw (records-are, r, y))
+      let z : freeZero s (u .size) (at + 4) 32 (u32 s at) ≡ allZero (part s (at + 4) (u .size * 32)) = rw (← q, v) (sym (zero-rest s (u .size) (at + 4) 32)) in
+      sym (rw (records-are, r, z))
 
   -- its records need support that there is not
   pub table-unsupported : (w ≡ 0 → ⊥) → w < 4294967296 → passes (u .support f) ≡ false → false ≡ tableOctetsOk u f s at
@@ -208,12 +198,17 @@ module _ (u : TableRule) (f : Hardware) (s : Octets) (at size w : ℕ) (e : size
       let r : empty (recordsAt s (u .size) (at + 4) 32 w) ≡ false = some-used (u .size) 32 w (drop (at + 4) s) v l in
       sym (rw (records-are, r, p) (and-off (recordsOk u (recordsAt s (u .size) (at + 4) 32 w))))
 
-  -- else its records tell
-  pub table-told : freeZero s size (at + 4) 32 w ≡ true → passes (u .support f) ≡ true → recordsOk u (recordsAt s (u .size) (at + 4) 32 w) ≡ tableOctetsOk u f s at
+  -- else its slots tell
+  pub table-told : passes (u .support f) ≡ true
+      → freeZero s (u .size) (at + 4) 32 w && recordsOk u (recordsAt s (u .size) (at + 4) 32 w) ≡ tableOctetsOk u f s at
   unfolding tableOctetsOk supportOk
-  table-told z p =
-      let y : freeZero s (u .size) (at + 4) 32 (u32 s at) ≡ true = rw (e, q) at z in
-      sym (rw (records-are, p, y, or-true (empty (recordsAt s (u .size) (at + 4) 32 w))) (and-on (recordsOk u (recordsAt s (u .size) (at + 4) 32 w))))
+  table-told p = sym (rw (records-are, p, or-true (empty (recordsAt s (u .size) (at + 4) 32 w)), ← q) (swapped (recordsOk u (recordsAt s (u .size) (at + 4) 32 w)) (freeZero s (u .size) (at + 4) 32 w)))
+    where
+      swapped : (a b : Bool) → a && b ≡ b && a
+      swapped true true = refl
+      swapped true false = refl
+      swapped false true = refl
+      swapped false false = refl
 
 -- the rule of table k, and those of the tables behind it
 rules-from : (k : ℕ) → k < 6 → drop k tableRules ≡ ruleAt k ∷ drop (k + 1) tableRules

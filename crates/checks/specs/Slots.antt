@@ -1,28 +1,24 @@
 -- The slots of a table where they lie: free slots are zero exactly if the octets are the one encoding of the table that they mean.
-use Prim.Native.Nat.{ℕ, zero, suc, _+_, _-_, _*_, _/_, _%_, _<_, _≤_}
+use Prim.Native.Nat.{ℕ, zero, suc, _+_, _*_, _/_, _%_, _≤_}
 use native.Mathlib.Omega.{arith}
 use native.Mathlib.Nat.{mul-suc, mul-zero}
 use mathlib.Core.Path.{_≡_, refl, sym, _∙_}
-use mathlib.Core.Bool.{Bool, true, false, _&&_, _||_}
-use mathlib.Core.List.{[], _∷_, _++_}
+use mathlib.Core.Bool.{Bool, true, false, _||_}
+use mathlib.Core.List.{[], _++_}
 use mathlib.Core.Option.{none, some}
 use lib.ListN.{length, drop, length-replicate}
 use lib.Seq.{drop-drop}
 use lib.Dec.{eqb}
-use borrow.Author.Tests.{eq-eqb, ne-eqb}
 use Rattle.model.specs.Octets.{Octets, allZero, bytes, same, u32}
 use Rattle.model.specs.Tables.{chop}
 use Rattle.model.specs.Layout.{occupancy, region, slotOctets, slots, slotsBack}
 use Rattle.model.specs.Proof.Tables.{same-refl}
 use Rattle.octets.specs.Parts.{part, length-part}
+use Rattle.octets.proofs.Numbers.{zeros-append}
+use Rattle.records.specs.Slots.{freeZero}
 use Rattle.table.specs.Slots.{tableAt}
 use Rattle.table.proofs.Regions.{word-at}
 use Rattle.checks.specs.Tests.{le32-part, part-add, same-append, same-zeros, u32-lt}
-
--- of n slots of a size from a place on, slot j in use if bit j of the word is set, the free ones are zero
-unfoldable pub freeZero : Octets → (size place n w : ℕ) → Bool
-freeZero s size place zero w = true
-freeZero s size place (suc n) w = (eqb (w % 2) 1 || allZero (part s place size)) && freeZero s size (place + size) n (w / 2)
 
 -- the slots, one and the rest
 part-slots : (s : Octets) (size place n : ℕ) → part s place (size * suc n) ≡ part s place size ++ part s (place + size) (size * n)
@@ -70,45 +66,6 @@ region-same s at size w h =
     rw (part-add s at 4 (size * 32), o, le32-part s at w (omega arith))
     (same-append (part s at 4) (part s (at + 4) (size * 32)) (part s at 4) (slots size (slotsBack (u32 s at) (chop size 32 (drop (at + 4) s)))) refl
     ∙ rw (same-refl (part s at 4)) (slots-same s size (at + 4) 32 (u32 s at) (omega arith)))
-
--- From slot to slot -------------------------------------------------------------------------------------------------------------------------
-
-module _ (s : Octets) (size at n w : ℕ) where
-  -- the first slot is in use or zero, and the rest is tested by the word's other bits
-  step : 0 < n → freeZero s size at n w ≡ (eqb (w % 2) 1 || allZero (part s at size)) && freeZero s size (at + size) (n - 1) (w / 2)
-  unfolding freeZero
-  step l = go n l
-    where
-      go : (m : ℕ) → 0 < m → freeZero s size at m w ≡ (eqb (w % 2) 1 || allZero (part s at size)) && freeZero s size (at + size) (m - 1) (w / 2)
-      go zero l = absurd (omega arith)
-      go (suc m) l = let e : suc m - 1 ≡ m = omega arith in rw e
-
-  -- a slot in use is passed over
-  pub zero-used : 0 < n → w % 2 ≡ 1 → freeZero s size (at + size) (n - 1) (w / 2) ≡ freeZero s size at n w
-  zero-used l b = sym (step l ∙ rw (eq-eqb (w % 2) 1 b))
-
-  -- a free slot is zero, or the test has failed
-  pub zero-free : 0 < n → (w % 2 ≡ 1 → ⊥) → allZero (part s at size) ≡ true → freeZero s size (at + size) (n - 1) (w / 2) ≡ freeZero s size at n w
-  zero-free l b z = sym (step l ∙ rw (ne-eqb (w % 2) 1 b, z))
-
-  -- a free slot that is not zero fails the test
-  pub zero-fails : 0 < n → (w % 2 ≡ 1 → ⊥) → allZero (part s at size) ≡ false → false ≡ freeZero s size at n w
-  zero-fails l b z = sym (step l ∙ rw (ne-eqb (w % 2) 1 b, z))
-
-  -- where no slots are left, the test has passed
-  pub zero-end : n ≤ 0 → true ≡ freeZero s size at n w
-  unfolding freeZero
-  zero-end l = let e : n ≡ 0 = omega arith in rw e
-
--- zeros in two parts
-zeros-append : (a b : Octets) → allZero (a ++ b) ≡ allZero a && allZero b
-unfolding allZero
-zeros-append [] b = refl
-zeros-append (x ∷ a) b = rw (zeros-append a b) (go (eqb x 0) (allZero a) (allZero b))
-  where
-    go : (f g h : Bool) → f && (g && h) ≡ f && g && h
-    go true g h = refl
-    go false g h = refl
 
 -- where no slot is in use, all are zero
 pub zero-rest : (s : Octets) (size at n : ℕ) → allZero (part s at (size * n)) ≡ freeZero s size at n 0

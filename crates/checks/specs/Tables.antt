@@ -21,7 +21,8 @@ use Rattle.octets.specs.Parts.{drop-take, length-part, part, u32-part}
 use Rattle.table.specs.Slots.{tableAt}
 use Rattle.table.proofs.Regions.{length-region, length-table, sized-at}
 use Rattle.checks.specs.Tests.{part-add, same-append}
-use Rattle.checks.specs.Slots.{freeZero, region-same}
+use Rattle.records.specs.Slots.{freeZero}
+use Rattle.checks.specs.Slots.{region-same}
 use Rattle.layout.proofs.Tables.{behind-word}
 
 -- 1. One table ------------------------------------------------------------------------------------------------------------------------------

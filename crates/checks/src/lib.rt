@@ -15,7 +15,6 @@ ghost use Rattle.checks.specs.Blocks.{blockOk};
 ghost use Rattle.checks.specs.Open.{openOctetsOk};
 ghost use Rattle.checks.specs.Present.{blockAt, controllerOctetsOk};
 ghost use Rattle.checks.specs.Settings.{flagsOctetsOk};
-ghost use Rattle.checks.specs.Slots.{freeZero};
 ghost use Rattle.checks.specs.Tables.{tableOctetsOk, tablesOctetsOk};
 use model::RadioSettings;
 use rules::Decision;
@@ -36,44 +35,17 @@ fn blank(s: &[u8], at: usize, n: usize) -> bool
 
 // Tables
 
-// Whether of n slots from a place on the free ones are zero: slot j is in use if bit j of the word is set.
-fn free_zero(s: &[u8], size: usize, place: usize, n: usize, w: u64) -> bool
-    requires { ⌜ place + size * n ≤ length (now s) ⌝ }
-    ensures { λ r. ⌜ r ≡ freeZero (now (s .entry)) size place n w ⌝ }
-{
-    let mut at = place;
-    let mut left = n;
-    let mut word = w;
-    while 0 < left {
-        if word == 0 {
-            return blank(s, at, size * left);
-        }
-        if word % 2 != 1 {
-            if !blank(s, at, size) {
-                return false;
-            }
-        }
-        at = at + size;
-        left = left - 1;
-        word = word / 2;
-    }
-    true
-}
-
 // Whether the table k that lies at a place is well formed and its free slots are zero, of a controller with these supported settings.
 fn table_ok(s: &[u8], at: usize, k: usize, supported: u32) -> bool
     requires { ⌜ (k < 6) × (at + (4 + ruleAt k .size * 32) ≤ length (now s)) ⌝ }
     ensures { λ r. ⌜ ((f : Hardware) → f .supported ≡ supported → r ≡ tableOctetsOk (ruleAt k) f (now (s .entry)) at) ⌝ }
 {
-    let size = records::size_of(k);
     let w = octets::u32_at(s, at);
-    if free_zero(s, size, at + 4, 32, w) {
-        if w == 0 {
-            return true;
-        }
-        if records::supports(k, supported) {
-            return records::keeps_rule(k, s, at + 4, 32, w);
-        }
+    if w == 0 {
+        return blank(s, at + 4, records::size_of(k) * 32);
+    }
+    if records::supports(k, supported) {
+        return records::slots_fine(k, s, at + 4, 32, w);
     }
     false
 }

@@ -37,7 +37,7 @@ unfolding part
 two-part s at h = rw (add-one, drop-cons s at 0 (omega arith), drop-cons s (suc at) 0 (omega arith))
 
 -- a part is its beginning and what follows
-part-add : (s : List ℕ) (at m n : ℕ) → part s at (m + n) ≡ part s at m ++ part s (at + m) n
+pub part-add : (s : List ℕ) (at m n : ℕ) → part s at (m + n) ≡ part s at m ++ part s (at + m) n
 unfolding part
 part-add s at m n = rw (take-add m n (drop at s), drop-drop m at s)
 

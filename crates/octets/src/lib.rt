@@ -30,13 +30,12 @@ pub fn u32_at(s: &[u8], at: usize) -> u64
     u16_at(s, at) + 65536 * u16_at(s, at + 2)
 }
 
-// The number in the seven octets from the place `at` on, low octet first, as an address and its type spell it: two loads of four octets
-// that share one.
+// The number in the seven octets from the place `at` on, low octet first, as an address and its type spell it.
 pub fn u56_at(s: &[u8], at: usize) -> u64
     requires { ⌜ at + 7 ≤ length (now s) ⌝ }
     ensures { λ r. ⌜ (r ≡ little (part (now (s .entry)) at 7)) × (r < 72057594037927936) ⌝ }
 {
-    u32_at(s, at) + 4294967296 * (u32_at(s, at + 3) / 256)
+    u32_at(s, at) + 4294967296 * (u16_at(s, at + 4) + 65536 * wide(s[at + 6]))
 }
 
 // The number in the eight octets from the place `at` on, low octet first.

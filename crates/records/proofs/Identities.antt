@@ -3,16 +3,16 @@ use Prim.Native.Nat.{ℕ, zero, suc, _+_, _*_, _/_, _%_, _<_, _≤_}
 use native.Mathlib.Omega.{arith}
 use native.Mathlib.Nat.{mul-suc}
 use mathlib.Core.Path.{_≡_, refl, sym, ap, _∙_}
-use mathlib.Core.Bool.{Bool, true, false, _&&_, not}
+use mathlib.Core.Bool.{Bool, true, false, _&&_}
 use mathlib.Core.List.{List, [], _∷_, _++_, map, append-nil}
 use mathlib.Core.Option.{none, some}
 use lib.ListN.{length, getD, take, drop, take-append-drop, length-take, length-drop, drop-of-length-le}
-use lib.Seq.{drop-drop, take-take}
+use lib.Seq.{drop-drop}
 use lib.Dec.{eqb}
 use borrow.Author.Tests.{eq-eqb}
 use Rattle.model.specs.Octets.{Octets, bytes, octet, same}
-use Rattle.model.specs.Tables.{any, blockedRule, chop, deviceRule, distinct, entries, every, identityKeyRule, linkKeyRule, longTermKeyRule, tableRules, uuidRule}
-use Rattle.model.specs.Tables.{ruleAt}
+use Rattle.model.specs.Tables.{any, chop, distinct, entries, every, ruleAt, tableRules}
+use Rattle.model.specs.Tables.{blockedRule, deviceRule, identityKeyRule, linkKeyRule, longTermKeyRule, uuidRule}
 use Rattle.model.specs.Proof.Tables.{bytes-drop, bytes-take, byte-at, eqb-self, lt-true, same-eq, same-refl}
 use Rattle.model.specs.Proof.Tests.{and-true, both, equal}
 use Rattle.octets.specs.Parts.{part, drop-take, getD-part}
@@ -64,7 +64,8 @@ address-key (suc (suc (suc (suc (suc (suc k)))))) r l n m = absurd (omega arith)
 
 module _ (k : ℕ) (s : Octets) (at : ℕ) where
   -- that of a UUID: its octets in two words
-  pub identity-uuid : k ≡ 0 → _≡_ {A = Identity} (record { low = little (part s at 8); high = little (part s (at + 8) 8) }) (identityOf k (part s at (ruleAt k .size)))
+  pub identity-uuid : k ≡ 0
+      → _≡_ {A = Identity} (record { low = little (part s at 8); high = little (part s (at + 8) 8) }) (identityOf k (part s at (ruleAt k .size)))
   unfolding identityOf wordsOf uuidRule
   identity-uuid e =
       let f : take 8 (part s at 16) ≡ part s at 8 = take-part s at 8 16 (omega arith) in
@@ -72,7 +73,8 @@ module _ (k : ℕ) (s : Octets) (at : ℕ) where
       sym (rw (rule0 k e, take-part s at 16 17 (omega arith), f, g))
 
   -- that of a long term key: Master, and the address with its type
-  pub identity-master : k ≡ 2 → _≡_ {A = Identity} (record { low = getD s (at + 8) 0 + 256 * little (part s at 7); high = 0 }) (identityOf k (part s at (ruleAt k .size)))
+  pub identity-master : k ≡ 2
+      → _≡_ {A = Identity} (record { low = getD s (at + 8) 0 + 256 * little (part s at 7); high = 0 }) (identityOf k (part s at (ruleAt k .size)))
   unfolding identityOf longTermKeyRule octet
   identity-master e =
       let f = eight (getD s (at + 8) 0) (part s at 36) in
@@ -80,7 +82,8 @@ module _ (k : ℕ) (s : Octets) (at : ℕ) where
       rw (rule2 k e, getD-part s at 36 8 (omega arith), ← g) f
 
   -- that of a record of another table: the address with its type
-  pub identity-address : k < 6 → (k ≡ 0 → ⊥) → (k ≡ 2 → ⊥) → _≡_ {A = Identity} (record { low = little (part s at 7); high = 0 }) (identityOf k (part s at (ruleAt k .size)))
+  pub identity-address : k < 6 → (k ≡ 0 → ⊥) → (k ≡ 2 → ⊥)
+      → _≡_ {A = Identity} (record { low = little (part s at 7); high = 0 }) (identityOf k (part s at (ruleAt k .size)))
   unfolding identityOf
   identity-address l n m =
       let e : take 7 (part s at (ruleAt k .size)) ≡ part s at 7 = take-part s at 7 (ruleAt k .size) (size-least k l) in
@@ -93,7 +96,8 @@ words-told : (x y : Octets) → length x ≡ length y → bytes x ≡ true → b
 unfolding sameIdentity wordsOf
 words-told x y l p q = go (same x y) refl (eqb (little (take 8 x)) (little (take 8 y))) refl (eqb (little (drop 8 x)) (little (drop 8 y))) refl
   where
-    one : same x y ≡ false → eqb (little (take 8 x)) (little (take 8 y)) ≡ true → eqb (little (drop 8 x)) (little (drop 8 y)) ≡ true → true ≡ false
+    one : same x y ≡ false → eqb (little (take 8 x)) (little (take 8 y)) ≡ true → eqb (little (drop 8 x)) (little (drop 8 y)) ≡ true
+        → true ≡ false
     one s a b =
         let la : length (take 8 x) ≡ length (take 8 y) = rw (length-take, length-take, l) in
         let lb : length (drop 8 x) ≡ length (drop 8 y) = rw (length-drop, length-drop, l) in
@@ -102,7 +106,8 @@ words-told x y l p q = go (same x y) refl (eqb (little (take 8 x)) (little (take
         let e : x ≡ y = sym (take-append-drop 8 x) ∙ rw (ea, eb) (take-append-drop 8 y) in
         sym (same-refl y) ∙ (rw e at s)
 
-    go : (r : Bool) → same x y ≡ r → (a : Bool) → eqb (little (take 8 x)) (little (take 8 y)) ≡ a → (b : Bool) → eqb (little (drop 8 x)) (little (drop 8 y)) ≡ b → a && b ≡ r
+    go : (r : Bool) → same x y ≡ r → (a : Bool) → eqb (little (take 8 x)) (little (take 8 y)) ≡ a
+        → (b : Bool) → eqb (little (drop 8 x)) (little (drop 8 y)) ≡ b → a && b ≡ r
     go true e a ea b eb =
         let f : x ≡ y = same-eq x y e in
         let g : a ≡ true = sym ea ∙ rw f (eqb-self (little (take 8 y))) in
@@ -157,7 +162,8 @@ among-told k a (r ∷ rs) l w e =
     rw (identity-told k a r l q (x .1) (y .1), among-told k a rs l w (h .1))
 
 -- and no two of some records have one identity by their words exactly if none have by their keys
-pub apart-told : (k : ℕ) (rs : List Octets) → k < 6 → every (λ r. whole k r) rs ≡ true → apart (map (identityOf k) rs) ≡ distinct (map (ruleAt k .key) rs)
+pub apart-told : (k : ℕ) (rs : List Octets) → k < 6 → every (λ r. whole k r) rs ≡ true
+    → apart (map (identityOf k) rs) ≡ distinct (map (ruleAt k .key) rs)
 unfolding apart distinct every
 apart-told k [] l e = refl
 apart-told k (r ∷ rs) l e =
@@ -165,7 +171,8 @@ apart-told k (r ∷ rs) l e =
     rw (among-told k r rs l (h .0) (h .1), apart-told k rs l (h .1))
 
 -- records cut from octets that are long enough are whole
-pub whole-chop : (k n : ℕ) (o : Octets) → ruleAt k .size * n ≤ length o → bytes o ≡ true → every (λ r. whole k r) (chop (ruleAt k .size) n o) ≡ true
+pub whole-chop : (k n : ℕ) (o : Octets) → ruleAt k .size * n ≤ length o → bytes o ≡ true
+    → every (λ r. whole k r) (chop (ruleAt k .size) n o) ≡ true
 unfolding every chop
 whole-chop k zero o h e = refl
 whole-chop k (suc n) o h e =
@@ -182,10 +189,17 @@ every-slots p w (r ∷ rs) e =
     let h = and-true (p r) _ e in
     go (eqb (w % 2) 1) (h .0) (every-slots p (w / 2) rs (h .1))
   where
-    go : (b : Bool) → p r ≡ true → every p (entries (slotsBack (w / 2) rs)) ≡ true → every p (entries (elim b [ true ↦ some r | false ↦ none ] ∷ slotsBack (w / 2) rs)) ≡ true
+    go : (b : Bool) → p r ≡ true → every p (entries (slotsBack (w / 2) rs)) ≡ true
+        → every p (entries (elim b [ true ↦ some r | false ↦ none ] ∷ slotsBack (w / 2) rs)) ≡ true
     go true f g = both f g
     go false f g = g
 
 -- so the records in use among slots that lie within octets are whole
-pub whole-slots : (k : ℕ) (s : Octets) (place n w : ℕ) → place + ruleAt k .size * n ≤ length s → bytes s ≡ true → every (λ r. whole k r) (recordsAt s (ruleAt k .size) place n w) ≡ true
+pub whole-slots : (k : ℕ) (s : Octets) (place n w : ℕ) → place + ruleAt k .size * n ≤ length s → bytes s ≡ true
+    → every (λ r. whole k r) (recordsAt s (ruleAt k .size) place n w) ≡ true
 whole-slots k s place n w h e = every-slots (λ r. whole k r) w _ (whole-chop k n (drop place s) (rw length-drop (omega arith)) (bytes-drop place s e))
+
+-- and they are apart by their words exactly if they are distinct by their keys
+pub slots-told : (k : ℕ) (s : Octets) (place n w : ℕ) → k < 6 → place + ruleAt k .size * n ≤ length s → bytes s ≡ true
+    → apart (map (identityOf k) (recordsAt s (ruleAt k .size) place n w)) ≡ distinct (map (ruleAt k .key) (recordsAt s (ruleAt k .size) place n w))
+slots-told k s place n w l h e = apart-told k (recordsAt s (ruleAt k .size) place n w) l (whole-slots k s place n w h e)

@@ -11,14 +11,14 @@ use lib.ListN.{length, getD, take, drop}
 use lib.Seq.{take-take}
 use lib.Dec.{eqb, leb, ltb}
 use borrow.Author.Tests.{eq-eqb, ne-eqb, le-leb, lt-leb, le-ltb, lt-ltb, ltb-true, ltb-false}
-use Rattle.model.specs.Octets.{Octets, octet, allZero, bit, same}
+use Rattle.model.specs.Octets.{Octets, octet, allZero, bit}
 use Rattle.model.specs.declared.Hardware.{Hardware}
 use Rattle.model.specs.State.{bredrSupported, leSupported, staticRandom}
 use Rattle.model.specs.Reasons.{Check, firstOf, noReason, passes}
-use Rattle.model.specs.Tables.{TableRule, any, blockedRule, deviceRule, every, identityKeyRule, leAddressChecks, linkKeyRule, longTermKeyRule, needsBredr, needsLe, needsNothing, recordOk, tableRules, uuidRule}
-use Rattle.model.specs.Tables.{ruleAt}
+use Rattle.model.specs.Tables.{TableRule, every, leAddressChecks, needsBredr, needsLe, needsNothing, recordOk, ruleAt, tableRules}
+use Rattle.model.specs.Tables.{blockedRule, deviceRule, identityKeyRule, linkKeyRule, longTermKeyRule, uuidRule}
 use Rattle.octets.specs.Parts.{part, length-part, getD-part}
-use Rattle.records.specs.Slots.{recordsAt, used-slot, free-slot, no-slots, no-more}
+use Rattle.records.specs.Slots.{freeZero, recordsAt, used-slot, free-slot, no-more}
 
 -- what a comparison of two numbers says as a test
 pub ruleset tests = (eq-eqb, ne-eqb, le-leb, lt-leb, le-ltb, lt-ltb)
@@ -57,15 +57,37 @@ pub rule5 : (k : ℕ) → k ≡ 5 → ruleAt k ≡ deviceRule
 unfolding ruleAt tableRules
 rule5 k e = rw e
 
--- a UUID with its hint has 17 octets
+-- The size of its records.
+
+-- a UUID with its hint
 pub size0 : (k : ℕ) → k ≡ 0 → ruleAt k .size ≡ 17
 unfolding uuidRule
 size0 k e = rw (rule0 k e)
 
--- a long term key has 36 octets
+-- a link key
+pub size1 : (k : ℕ) → k ≡ 1 → ruleAt k .size ≡ 25
+unfolding linkKeyRule
+size1 k e = rw (rule1 k e)
+
+-- a long term key
 pub size2 : (k : ℕ) → k ≡ 2 → ruleAt k .size ≡ 36
 unfolding longTermKeyRule
 size2 k e = rw (rule2 k e)
+
+-- an identity resolving key
+pub size3 : (k : ℕ) → k ≡ 3 → ruleAt k .size ≡ 23
+unfolding identityKeyRule
+size3 k e = rw (rule3 k e)
+
+-- a blocked device
+pub size4 : (k : ℕ) → k ≡ 4 → ruleAt k .size ≡ 7
+unfolding blockedRule
+size4 k e = rw (rule4 k e)
+
+-- a device
+pub size5 : (k : ℕ) → k ≡ 5 → ruleAt k .size ≡ 8
+unfolding deviceRule
+size5 k e = rw (rule5 k e)
 
 -- a record of any table has at least seven octets, the length of an address and its type
 pub size-least : (k : ℕ) → k < 6 → 7 ≤ ruleAt k .size
@@ -77,6 +99,36 @@ size-least (suc (suc (suc zero))) l = omega arith
 size-least (suc (suc (suc (suc zero)))) l = omega arith
 size-least (suc (suc (suc (suc (suc zero))))) l = omega arith
 size-least (suc (suc (suc (suc (suc (suc k)))))) l = absurd (omega arith)
+
+-- but for a blocked device's it has eight
+pub size-word : (k : ℕ) → k < 6 → (k ≡ 4 → ⊥) → 8 ≤ ruleAt k .size
+unfolding ruleAt tableRules uuidRule linkKeyRule longTermKeyRule identityKeyRule deviceRule
+size-word zero l a = omega arith
+size-word (suc zero) l a = omega arith
+size-word (suc (suc zero)) l a = omega arith
+size-word (suc (suc (suc zero))) l a = omega arith
+size-word (suc (suc (suc (suc zero)))) l a = absurd (a refl)
+size-word (suc (suc (suc (suc (suc zero))))) l a = omega arith
+size-word (suc (suc (suc (suc (suc (suc k)))))) l a = absurd (omega arith)
+
+-- and but for a device's sixteen
+pub size-words : (k : ℕ) → k < 6 → (k ≡ 4 → ⊥) → (k ≡ 5 → ⊥) → 16 ≤ ruleAt k .size
+unfolding ruleAt tableRules uuidRule linkKeyRule longTermKeyRule identityKeyRule
+size-words zero l a b = omega arith
+size-words (suc zero) l a b = omega arith
+size-words (suc (suc zero)) l a b = omega arith
+size-words (suc (suc (suc zero))) l a b = omega arith
+size-words (suc (suc (suc (suc zero)))) l a b = absurd (a refl)
+size-words (suc (suc (suc (suc (suc zero))))) l a b = absurd (b refl)
+size-words (suc (suc (suc (suc (suc (suc k)))))) l a b = absurd (omega arith)
+
+-- a link key or a long term key, the two that are left, has 24
+pub size-keys : (k : ℕ) → k < 3 → (k ≡ 0 → ⊥) → 24 ≤ ruleAt k .size
+unfolding ruleAt tableRules linkKeyRule longTermKeyRule
+size-keys zero l a = absurd (a refl)
+size-keys (suc zero) l a = omega arith
+size-keys (suc (suc zero)) l a = omega arith
+size-keys (suc (suc (suc k))) l a = absurd (omega arith)
 
 -- 2. Checks as tests of octets where they lie -----------------------------------------------------------------------------------------------
 
@@ -211,6 +263,35 @@ room at size n end l h =
     let f : at + size * suc (n - 1) ≤ end = rw e at h in
     omega (arith, mul-suc size (n - 1))
 
+module _ (s : Octets) (size at n w : ℕ) where
+  -- the first slot is in use or zero, and the rest is tested by the word's other bits
+  free-step : 0 < n → freeZero s size at n w ≡ (eqb (w % 2) 1 || allZero (part s at size)) && freeZero s size (at + size) (n - 1) (w / 2)
+  unfolding freeZero
+  free-step l = go n l
+    where
+      go : (m : ℕ) → 0 < m → freeZero s size at m w ≡ (eqb (w % 2) 1 || allZero (part s at size)) && freeZero s size (at + size) (m - 1) (w / 2)
+      go zero l = absurd (omega arith)
+      go (suc m) l = let e : suc m - 1 ≡ m = omega arith in rw e
+
+  -- Whether the free slots from one on are zero, by that slot:
+
+  -- in use
+  pub free-used : 0 < n → w % 2 ≡ 1 → freeZero s size (at + size) (n - 1) (w / 2) ≡ freeZero s size at n w
+  free-used l b = sym (free-step l ∙ rw (eq-eqb (w % 2) 1 b))
+
+  -- free and zero
+  pub free-zero : 0 < n → (w % 2 ≡ 1 → ⊥) → allZero (part s at size) ≡ true → freeZero s size (at + size) (n - 1) (w / 2) ≡ freeZero s size at n w
+  free-zero l b z = sym (free-step l ∙ rw (ne-eqb (w % 2) 1 b, z))
+
+  -- free and not zero
+  pub free-fails : 0 < n → (w % 2 ≡ 1 → ⊥) → allZero (part s at size) ≡ false → freeZero s size at n w ≡ false
+  free-fails l b z = free-step l ∙ rw (ne-eqb (w % 2) 1 b, z)
+
+  -- no slot is left
+  pub free-end : n ≤ 0 → freeZero s size at n w ≡ true
+  unfolding freeZero
+  free-end l = let e : n ≡ 0 = omega arith in rw e
+
 module _ (u : TableRule) (s : Octets) (size : ℕ) (e : size ≡ u .size) (at n w : ℕ) where
   -- the record here keeps its rule, if its checks pass
   record-is : at + size ≤ length s → recordOk u (part s at size) ≡ passes (u .checks (part s at (u .size)))
@@ -233,11 +314,6 @@ module _ (u : TableRule) (s : Octets) (size : ℕ) (e : size ≡ u .size) (at n 
   -- free
   pub every-free : 0 < n → (w % 2 ≡ 1 → ⊥) → every (recordOk u) (recordsAt s size (at + size) (n - 1) (w / 2)) ≡ every (recordOk u) (recordsAt s size at n w)
   every-free l b = sym (rw (free-slot s size at n w l b))
-
-  -- no bit of the word is left
-  pub every-none : w ≡ 0 → true ≡ every (recordOk u) (recordsAt s size at n w)
-  unfolding every
-  every-none z = sym (rw (z, no-slots size n (drop at s)))
 
   -- no slot is left
   pub every-end : n ≤ 0 → true ≡ every (recordOk u) (recordsAt s size at n w)

@@ -2,7 +2,7 @@
 use Prim.Native.Nat.{ℕ}
 use mathlib.Core.Bool.{Bool, true, false, _&&_, _||_, not}
 use mathlib.Core.List.{List, [], _∷_}
-use lib.ListN.{take, drop}
+use lib.ListN.{getD, take, drop}
 use lib.Dec.{eqb}
 use Rattle.model.specs.Octets.{Octets}
 use Rattle.model.specs.Tables.{ruleAt}
@@ -30,3 +30,21 @@ among a (b ∷ bs) = sameIdentity a b || among a bs
 unfoldable pub apart : List Identity → Bool
 apart [] = true
 apart (a ∷ bs) = not (among a bs) && apart bs
+
+-- two lists of words as identities
+unfoldable pub paired : List ℕ → List ℕ → List Identity
+paired [] ys = []
+paired (x ∷ xs) [] = []
+paired (x ∷ xs) (y ∷ ys) = record { low = x; high = y } ∷ paired xs ys
+
+-- the first n identities of two lists of words
+unfoldable pub collected : List ℕ → List ℕ → ℕ → List Identity
+collected low high n = paired (take n low) (take n high)
+
+-- those of them from number i on
+unfoldable pub behind : List ℕ → List ℕ → (n i : ℕ) → List Identity
+behind low high n i = paired (drop i (take n low)) (drop i (take n high))
+
+-- identity number i
+abbrev pub numbered : List ℕ → List ℕ → ℕ → Identity
+numbered low high i = record { low = getD low i 0; high = getD high i 0 }

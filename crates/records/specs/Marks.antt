@@ -1,113 +1,64 @@
--- Marks: a record has one of 64, by the octet that most often tells two records of its table apart. A word of 64 bits says which were seen.
--- Records of one identity have one mark, so a record whose mark was not seen is no repeat.
-use Prim.Native.Nat.{ℕ, zero, suc, _*_, _/_, _%_, _^_, _<_, max}
-use native.Mathlib.Omega.{arith}
-use mathlib.Core.Path.{_≡_, refl, sym, ap, _∙_}
-use mathlib.Core.Bool.{Bool, true, false, _||_}
-use mathlib.Core.List.{List, [], _∷_, map}
-use lib.ListN.{getD, take, drop}
-use lib.Seq.{getD-take}
+-- Marks: numbers of 32 bits, one for each identity. Two identities that are one have one mark, so records whose marks all differ have no
+-- repeat. 32 marks are held twice over, one row behind the other: then those that stand d apart in the round stand d apart in the list.
+use Prim.Native.Nat.{ℕ, zero, suc, _+_, _*_, _/_, _%_, _<_, _≤_}
+use mathlib.Core.Path.{_≡_}
+use mathlib.Core.Bool.{Bool, true, false, _&&_, _||_}
+use mathlib.Core.List.{List, map}
+use lib.ListN.{length, getD, set, take}
 use lib.Dec.{eqb}
-use lib.Bits.{bitOr, or-shr, or-step}
-use lib.Pow.{shl-exact, shl-shr}
-use borrow.Author.Tests.{eq-eqb, eqb-true}
-use Rattle.model.specs.Octets.{Octets, octet, same}
-use Rattle.model.specs.Tables.{any, blockedRule, deviceRule, every, identityKeyRule, linkKeyRule, longTermKeyRule, tableRules, uuidRule}
-use Rattle.model.specs.Tables.{ruleAt}
-use Rattle.model.specs.Proof.Tables.{same-eq}
-use Rattle.model.specs.Proof.Tests.{and-true, both}
+use Rattle.model.specs.Octets.{Octets}
+use Rattle.model.specs.Tables.{every, recordOk, ruleAt}
+use Rattle.records.specs.declared.Identity.{Identity}
+use Rattle.records.specs.Slots.{freeZero, recordsAt}
+use Rattle.records.specs.Identities.{identityOf}
 
--- the place of the telling octet: of a UUID the low octet of the 16-bit number that the common ones hold, of an address the first
-unfoldable pub tellingOf : ℕ → ℕ
-tellingOf zero = 12
-tellingOf (suc k) = 0
+-- the mark of an identity: its runs of four octets, all but the first times an odd factor, in one sum of 32 bits
+unfoldable pub markOf : Identity → ℕ
+markOf d =
+    (d .low % 4294967296
+    + d .low / 4294967296 * 0x1E3779B1
+    + d .high % 4294967296 * 0x15EBCA77
+    + d .high / 4294967296 * 0x12B2AE3D)
+    % 4294967296
 
--- the mark of a record of table k
-unfoldable pub markOf : ℕ → Octets → ℕ
-markOf k r = octet r (tellingOf k) % 64
+-- the second 32 marks are the first again
+pub record Doubled (ms : List ℕ) : Type 0 where
+  pub long : length ms ≡ 64
+  pub again : (i : ℕ) → i < 32 → getD ms (i + 32) 0 ≡ getD ms i 0
 
--- the marks of all these records are seen
-unfoldable pub marked : ℕ → ℕ → List Octets → Bool
-marked k seen rs = every (λ r. eqb (seen / 2 ^ markOf k r % 2) 1) rs
+-- the marks with m as number i, in both halves
+abbrev pub withMark : List ℕ → (i m : ℕ) → List ℕ
+withMark ms i m = set (set ms i m) (i + 32) m
 
--- octets that agree in their first n agree in each of those
-first-told : (n : ℕ) (a b : Octets) (i : ℕ) → i < n → take n a ≡ take n b → getD a i 0 ≡ getD b i 0
-first-told n a b i l e = sym (getD-take n a i 0 l) ∙ ap (λ (x : Octets). getD x i 0) e ∙ getD-take n b i 0 l
+-- the marks of some identities stand first
+pub record Marked (ds : List Identity) (ms : List ℕ) : Type 0 where
+  pub few : length ds ≤ 32
+  pub first : take (length ds) ms ≡ map markOf ds
+  pub doubled : Doubled ms
 
--- records of one identity have one mark: the telling octet is part of the identity, in each of the six tables
-mark-same : (k : ℕ) (a b : Octets) → k < 6 → ruleAt k .key a ≡ ruleAt k .key b → markOf k a ≡ markOf k b
-unfolding ruleAt tableRules uuidRule linkKeyRule longTermKeyRule identityKeyRule blockedRule deviceRule markOf tellingOf octet
-mark-same zero a b l e = rw (first-told 16 a b 12 (omega arith) e)
-mark-same (suc zero) a b l e = rw (first-told 7 a b 0 (omega arith) e)
-mark-same (suc (suc zero)) a b l e = rw (first-told 7 a b 0 (omega arith) (ap (λ (x : Octets). drop 1 x) e))
-mark-same (suc (suc (suc zero))) a b l e = rw (first-told 7 a b 0 (omega arith) e)
-mark-same (suc (suc (suc (suc zero)))) a b l e = rw (first-told 7 a b 0 (omega arith) e)
-mark-same (suc (suc (suc (suc (suc zero))))) a b l e = rw (first-told 7 a b 0 (omega arith) e)
-mark-same (suc (suc (suc (suc (suc (suc k)))))) a b l e = absurd (omega arith)
+-- the free ones of n slots of table k from a place on are zero, and each record in the others keeps its own rule
+abbrev pub slotsFine : (k : ℕ) → Octets → (size place n w : ℕ) → Bool
+slotsFine k s size place n w = freeZero s size place n w && every (recordOk (ruleAt k)) (recordsAt s size place n w)
 
--- so a record whose mark is not seen has the identity of none
-pub unmarked : (k seen : ℕ) (a : Octets) (rs : List Octets) → k < 6 → marked k seen rs ≡ true → (seen / 2 ^ markOf k a % 2 ≡ 1 → ⊥)
-    → false ≡ any (same (ruleAt k .key a)) (map (ruleAt k .key) rs)
-unfolding marked every any
-unmarked k seen a [] l e n = refl
-unmarked k seen a (r ∷ rs) l e n =
-    let h = and-true (eqb (seen / 2 ^ markOf k r % 2) 1) _ e in
-    go (same (ruleAt k .key a) (ruleAt k .key r)) refl (eqb-true _ 1 (h .0)) (unmarked k seen a rs l (h .1) n)
-  where
-    go : (b : Bool) → same (ruleAt k .key a) (ruleAt k .key r) ≡ b → seen / 2 ^ markOf k r % 2 ≡ 1 → false ≡ any (same (ruleAt k .key a)) (map (ruleAt k .key) rs)
-        → false ≡ b || any (same (ruleAt k .key a)) (map (ruleAt k .key) rs)
-    go true q m i = absurd (n (rw (mark-same k a r l (same-eq _ _ q)) m))
-    go false q m i = i
+-- slots were looked at: whether they are fine, and if so their records are marked
+pub record Checked (k : ℕ) (s : Octets) (place n w : ℕ) (r : Bool) (ms : List ℕ) : Type 0 where
+  pub fine : r ≡ slotsFine k s (ruleAt k .size) place n w
+  pub marked : r ≡ true → Marked (map (identityOf k) (recordsAt s (ruleAt k .size) place n w)) ms
 
--- bits of words that are joined by or
-max-left : (z : ℕ) → z < 2 → max 1 z ≡ 1
-max-left zero l = refl
-max-left (suc zero) l = refl
-max-left (suc (suc z)) l = absurd (omega arith)
+-- of n marks from number i on, one is the same as the one d behind it
+unfoldable pub meetFrom : List ℕ → (d i n : ℕ) → Bool
+meetFrom ms d i zero = false
+meetFrom ms d i (suc n) = eqb (getD ms i 0) (getD ms (i + d) 0) || meetFrom ms d (i + 1) n
 
--- the same, of a set bit on the right
-max-right : (z : ℕ) → z < 2 → max z 1 ≡ 1
-max-right zero l = refl
-max-right (suc zero) l = refl
-max-right (suc (suc z)) l = absurd (omega arith)
+-- of the 32, one is
+unfoldable pub meetAt : List ℕ → ℕ → Bool
+meetAt ms d = meetFrom ms d 0 32
 
--- the lowest bit of a joined word is set where the first word has it
-low-left : (x y : ℕ) → x % 2 ≡ 1 → bitOr x y % 2 ≡ 1
-low-left x y e =
-    let m : max 1 (y % 2) ≡ 1 = max-left (y % 2) (omega arith) in
-    rw (or-step x y, e, m) (omega arith)
+-- two are the same that stand as far apart as one of n distances from d on
+unfoldable pub meetWithin : List ℕ → (d n : ℕ) → Bool
+meetWithin ms d zero = false
+meetWithin ms d (suc n) = meetAt ms d || meetWithin ms (d + 1) n
 
--- the same, of the second word
-low-right : (x y : ℕ) → y % 2 ≡ 1 → bitOr x y % 2 ≡ 1
-low-right x y e =
-    let m : max (x % 2) 1 ≡ 1 = max-right (x % 2) (omega arith) in
-    rw (or-step x y, e, m) (omega arith)
-
--- a bit that is set stays set
-or-left : (a b c : ℕ) → a / 2 ^ c % 2 ≡ 1 → bitOr a b / 2 ^ c % 2 ≡ 1
-or-left a b c e = rw (or-shr a b c) (low-left (a / 2 ^ c) (b / 2 ^ c) e)
-
--- and the bit of a mark is set by joining it in
-or-mark : (a c : ℕ) → c < 64 → bitOr a (1 * 2 ^ c % 18446744073709551616) / 2 ^ c % 2 ≡ 1
-or-mark a c l =
-    let e : 1 * 2 ^ c % 18446744073709551616 ≡ 1 * 2 ^ c = shl-exact {a = 1} 1 c 64 (omega arith) (omega arith) in
-    rw (e, or-shr a (1 * 2 ^ c) c, shl-shr 1 c) (low-right (a / 2 ^ c) 1 refl)
-
--- no marks of no records are missing
-pub marked-none : (k seen : ℕ) → marked k seen [] ≡ true
-unfolding marked every
-marked-none k seen = refl
-
--- what is marked stays marked
-marked-or : (k seen b : ℕ) (rs : List Octets) → marked k seen rs ≡ true → marked k (bitOr seen b) rs ≡ true
-unfolding marked every
-marked-or k seen b [] e = refl
-marked-or k seen b (r ∷ rs) e =
-    let h = and-true (eqb (seen / 2 ^ markOf k r % 2) 1) _ e in
-    both (eq-eqb _ 1 (or-left seen b (markOf k r) (eqb-true _ 1 (h .0)))) (marked-or k seen b rs (h .1))
-
--- a record more is marked
-pub marked-more : (k seen m : ℕ) (r : Octets) (rs : List Octets) → m ≡ markOf k r → m < 64 → marked k seen rs ≡ true → marked k (bitOr seen (1 * 2 ^ m % 18446744073709551616)) (r ∷ rs) ≡ true
-unfolding marked every
-marked-more k seen m r rs q l e =
-    both (eq-eqb (bitOr seen (1 * 2 ^ m % 18446744073709551616) / 2 ^ markOf k r % 2) 1 (rw (← q) (or-mark seen m l))) (marked-or k seen (1 * 2 ^ m % 18446744073709551616) rs e)
+-- two of the 32 are the same: in the round no two stand more than 16 apart
+unfoldable pub meetAny : List ℕ → Bool
+meetAny ms = meetWithin ms 1 16

@@ -3,18 +3,20 @@
 // word is set: a table of the lent state has its occupancy word and 32 slots, a list of n records the word of n ones.
 ghost use mathlib.Core.Path.{_≡_};
 ghost use Prim.Native.Nat.{_+_, _-_, _*_, _^_, _≤_, _<_};
-ghost use mathlib.Core.Bool.{true};
+ghost use mathlib.Core.Bool.{_&&_};
 ghost use mathlib.Core.List.{map};
 ghost use lib.ListN.{length};
 ghost use Rattle.model.specs.declared.Hardware.{Hardware};
-ghost use Rattle.model.specs.Octets.{same};
+ghost use Rattle.model.specs.Octets.{allZero};
 ghost use Rattle.model.specs.Reasons.{passes};
 ghost use Rattle.model.specs.Tables as T;
 ghost use Rattle.model.specs.Tables.{ruleAt};
 ghost use Rattle.octets.specs.Parts.{part};
-ghost use Rattle.records.specs.Slots.{recordsAt};
-ghost use Rattle.records.specs.Marks.{markOf, marked};
-ghost use Rattle.records.specs.Identities.{identityOf, sameIdentity};
+ghost use Rattle.records.specs.Slots.{freeZero, recordsAt};
+ghost use Rattle.records.specs.Marks.{Checked, Doubled, Marked};
+ghost use Rattle.records.specs.Identities.{identityOf, sameIdentity, among, apart, behind, collected, numbered};
+
+mod marks;
 
 // What no two records of a table may share, of up to 16 octets, as two words: the first eight octets and those behind, low octet first.
 pub struct Identity {
@@ -50,8 +52,8 @@ fn uuid_ok(s: &[u8], at: usize) -> bool
     requires { ⌜ at + 17 ≤ length (now s) ⌝ }
     ensures { λ r. ⌜ r ≡ passes (T.uuidRule .checks (part (now (s .entry)) at 17)) ⌝ }
 {
-    if octets::zero_part(s, at, 16) {
-        return false;
+    if octets::u64_at(s, at) == 0 {
+        return octets::u64_at(s, at + 8) != 0;
     }
     true
 }
@@ -109,12 +111,23 @@ fn identity_key_ok(s: &[u8], at: usize) -> bool
     le_address_ok(s, at)
 }
 
+// Whether the address at a place is zero.
+fn address_zero(s: &[u8], at: usize) -> bool
+    requires { ⌜ at + 6 ≤ length (now s) ⌝ }
+    ensures { λ r. ⌜ r ≡ allZero (part (now (s .entry)) at 6) ⌝ }
+{
+    if octets::u32_at(s, at) == 0 {
+        return octets::u16_at(s, at + 4) == 0;
+    }
+    false
+}
+
 // A blocked device: any address but zero, of one of the three types.
 fn blocked_ok(s: &[u8], at: usize) -> bool
     requires { ⌜ at + 7 ≤ length (now s) ⌝ }
     ensures { λ r. ⌜ r ≡ passes (T.blockedRule .checks (part (now (s .entry)) at 7)) ⌝ }
 {
-    if octets::zero_part(s, at, 6) {
+    if address_zero(s, at) {
         return false;
     }
     s[at + 6] <= 2
@@ -125,7 +138,7 @@ fn device_ok(s: &[u8], at: usize) -> bool
     requires { ⌜ at + 8 ≤ length (now s) ⌝ }
     ensures { λ r. ⌜ r ≡ passes (T.deviceRule .checks (part (now (s .entry)) at 8)) ⌝ }
 {
-    if octets::zero_part(s, at, 6) {
+    if address_zero(s, at) {
         return false;
     }
     if 2 < s[at + 6] {
@@ -163,6 +176,41 @@ pub fn record_ok(k: usize, s: &[u8], at: usize) -> bool
     device_ok(s, at)
 }
 
+// Whether the slot of table k at a place is zero, by words.
+pub fn slot_zero(k: usize, s: &[u8], at: usize) -> bool
+    requires { ⌜ (k < 6) × (at + ruleAt k .size ≤ length (now s)) ⌝ }
+    ensures { λ r. ⌜ r ≡ allZero (part (now (s .entry)) at (ruleAt k .size)) ⌝ }
+{
+    if k == 4 {
+        return octets::u56_at(s, at) == 0;
+    }
+    if octets::u64_at(s, at) != 0 {
+        return false;
+    }
+    if k == 5 {
+        return true;
+    }
+    if octets::u64_at(s, at + 8) != 0 {
+        return false;
+    }
+    if k == 0 {
+        return s[at + 16] == 0;
+    }
+    if k == 3 {
+        return octets::u56_at(s, at + 16) == 0;
+    }
+    if octets::u64_at(s, at + 16) != 0 {
+        return false;
+    }
+    if k == 1 {
+        return s[at + 24] == 0;
+    }
+    if octets::u64_at(s, at + 24) != 0 {
+        return false;
+    }
+    octets::u32_at(s, at + 32) == 0
+}
+
 // The identity of the record of table k at a place: a UUID, or an address with its type, of long term keys behind the octet Master.
 pub fn identity_at(k: usize, s: &[u8], at: usize) -> Identity
     requires { ⌜ (k < 6) × (at + ruleAt k .size ≤ length (now s)) ⌝ }
@@ -194,44 +242,28 @@ pub fn same_identity(a: Identity, b: Identity) -> bool
     false
 }
 
-// Whether the records of table k at two places have one identity. The octet that most often tells two apart is compared first: of UUIDs
-// the low octet of the 16-bit number that the common ones hold, of addresses the first.
-fn same_at(k: usize, s: &[u8], a: usize, b: usize) -> bool
-    requires { ⌜ (k < 6) × (a + ruleAt k .size ≤ length (now s)) × (b + ruleAt k .size ≤ length (now s)) ⌝ }
-    ensures { λ r. ⌜ r ≡ same (ruleAt k .key (part (now (s .entry)) a (ruleAt k .size))) (ruleAt k .key (part (now (s .entry)) b (ruleAt k .size))) ⌝ }
-{
-    if k == 0 {
-        if s[a + 12] != s[b + 12] {
-            return false;
-        }
-        return octets::same_part(s, a, s, b, 16);
-    }
-    if s[a] != s[b] {
-        return false;
-    }
-    if k == 2 {
-        if s[a + 8] != s[b + 8] {
-            return false;
-        }
-    }
-    octets::same_part(s, a, s, b, 7)
-}
+// Slots and repeats
 
-// Whether every record among the n slots of table k from a place on keeps its rule.
-pub fn all_ok(k: usize, s: &[u8], place: usize, n: usize, w: u64) -> bool
-    requires { ⌜ (k < 6) × (n ≤ 32) × (place + ruleAt k .size * n ≤ length (now s)) ⌝ }
-    ensures { λ r. ⌜ r ≡ T.every (T.recordOk (ruleAt k)) (recordsAt (now (s .entry)) (ruleAt k .size) place n w) ⌝ }
+// Whether of the n slots of table k from a place on the free ones are zero and each record in the others keeps its own rule. If so, the
+// marks of the records are left, in slot order.
+fn slots_ok(k: usize, s: &[u8], place: usize, n: usize, w: u64, marks: &mut [u32; 64]) -> bool
+    requires { ⌜ (k < 6) × (n ≤ 32) × (place + ruleAt k .size * n ≤ length (now s)) × Doubled (now marks) ⌝ }
+    ensures { λ r. ⌜ Checked k (now (s .entry)) place n w r (now (marks .exit)) ⌝ }
 {
     let size = size_of(k);
     let mut at = place;
     let mut left = n;
     let mut word = w;
+    let mut found: usize = 0;
     while 0 < left {
-        if word == 0 {
-            return true;
-        }
         if word % 2 == 1 {
             if !record_ok(k, s, at) {
+                return false;
+            }
+            marks::put_mark(marks, found, marks::mark_of(identity_at(k, s, at)));
+            found += 1;
+        } else {
+            if !slot_zero(k, s, at) {
                 return false;
             }
         }
@@ -242,89 +274,164 @@ pub fn all_ok(k: usize, s: &[u8], place: usize, n: usize, w: u64) -> bool
     true
 }
 
-// Whether the record at `at` has the identity of one among the n slots of table k from a place on.
-fn repeated(k: usize, s: &[u8], at: usize, place: usize, n: usize, w: u64) -> bool
-    requires { ⌜ (k < 6) × (at + ruleAt k .size ≤ length (now s)) × (place + ruleAt k .size * n ≤ length (now s)) ⌝ }
-    ensures { λ r. ⌜ r ≡ T.any (same (ruleAt k .key (part (now (s .entry)) at (ruleAt k .size)))) (map (ruleAt k .key) (recordsAt (now (s .entry)) (ruleAt k .size) place n w)) ⌝ }
-{
-    let size = size_of(k);
-    let mut next = place;
-    let mut rest = n;
-    let mut word = w;
-    while 0 < rest {
-        if word == 0 {
-            return false;
-        }
-        if word % 2 == 1 {
-            if same_at(k, s, at, next) {
-                return true;
-            }
-        }
-        next = next + size;
-        rest = rest - 1;
-        word = word / 2;
-    }
-    false
-}
-
-// Which of 64 marks a record of table k has, by the octet that most often tells two apart.
-fn mark_of(k: usize, s: &[u8], at: usize) -> u64
-    requires { ⌜ (k < 6) × (at + ruleAt k .size ≤ length (now s)) ⌝ }
-    ensures { λ r. ⌜ (r ≡ markOf k (part (now (s .entry)) at (ruleAt k .size))) × (r < 64) ⌝ }
+// The same, with the table's number known where the loop begins: the compiler makes a loop of its own for each table.
+fn table_slots_ok(k: usize, s: &[u8], place: usize, n: usize, w: u64, marks: &mut [u32; 64]) -> bool
+    requires { ⌜ (k < 6) × (n ≤ 32) × (place + ruleAt k .size * n ≤ length (now s)) × Doubled (now marks) ⌝ }
+    ensures { λ r. ⌜ Checked k (now (s .entry)) place n w r (now (marks .exit)) ⌝ }
 {
     if k == 0 {
-        return octets::wide(s[at + 12]) % 64;
+        return slots_ok(0, s, place, n, w, marks);
     }
-    octets::wide(s[at]) % 64
+    if k == 1 {
+        return slots_ok(1, s, place, n, w, marks);
+    }
+    if k == 2 {
+        return slots_ok(2, s, place, n, w, marks);
+    }
+    if k == 3 {
+        return slots_ok(3, s, place, n, w, marks);
+    }
+    if k == 4 {
+        return slots_ok(4, s, place, n, w, marks);
+    }
+    slots_ok(5, s, place, n, w, marks)
 }
 
-// Whether the record at `at` has the identity of one among the n slots of table k behind it. The marks of those are seen, so where the
-// record's own is not, none of them needs to be looked at.
-fn again(k: usize, s: &[u8], at: usize, n: usize, w: u64, seen: u64) -> bool
-    requires { ⌜ (k < 6) × (at + ruleAt k .size + ruleAt k .size * n ≤ length (now s)) × (marked k seen (recordsAt (now s) (ruleAt k .size) (at + ruleAt k .size) n w) ≡ true) ⌝ }
-    ensures { λ r. ⌜ r ≡ T.any (same (ruleAt k .key (part (now (s .entry)) at (ruleAt k .size)))) (map (ruleAt k .key) (recordsAt (now (s .entry)) (ruleAt k .size) (at + ruleAt k .size) n w)) ⌝ }
+// Puts the identities of the records among the n slots of table k from a place on one behind the other, and counts them.
+fn collect(
+    k: usize,
+    s: &[u8],
+    place: usize,
+    n: usize,
+    w: u64,
+    low: &mut [u64; 32],
+    high: &mut [u64; 32],
+) -> usize
+    requires { ⌜ (k < 6) × (n ≤ 32) × (place + ruleAt k .size * n ≤ length (now s)) × (length (now low) ≡ 32) × (length (now high) ≡ 32) ⌝ }
+    ensures { λ r. ⌜ (r ≤ 32) × (length (now (low .exit)) ≡ 32) × (length (now (high .exit)) ≡ 32)
+        × (collected (now (low .exit)) (now (high .exit)) r ≡ map (identityOf k) (recordsAt (now (s .entry)) (ruleAt k .size) place n w)) ⌝ }
 {
-    let m = mark_of(k, s, at);
-    if (seen >> m) % 2 == 1 {
-        return repeated(k, s, at, at + size_of(k), n, w);
+    let size = size_of(k);
+    let mut at = place;
+    let mut left = n;
+    let mut word = w;
+    let mut found: usize = 0;
+    while 0 < left {
+        if word % 2 == 1 {
+            let d = identity_at(k, s, at);
+            low[found] = d.low;
+            high[found] = d.high;
+            found += 1;
+        }
+        at = at + size;
+        left = left - 1;
+        word = word / 2;
+    }
+    found
+}
+
+// The marks of n identities.
+fn marks_of(low: &[u64; 32], high: &[u64; 32], n: usize) -> [u32; 64]
+    requires { ⌜ (n ≤ 32) × (length (now low) ≡ 32) × (length (now high) ≡ 32) ⌝ }
+    ensures { λ r. ⌜ Marked (collected (now (low .entry)) (now (high .entry)) n) r ⌝ }
+{
+    let mut marks = marks::no_marks();
+    let mut i: usize = 0;
+    while i < n {
+        let d = Identity {
+            low: low[i],
+            high: high[i],
+        };
+        marks::put_mark(&mut marks, i, marks::mark_of(d));
+        i += 1;
+    }
+    marks
+}
+
+// Whether one of the n identities behind number i is the same.
+fn repeated_behind(low: &[u64; 32], high: &[u64; 32], i: usize, n: usize) -> bool
+    requires { ⌜ (i < n) × (n ≤ 32) × (length (now low) ≡ 32) × (length (now high) ≡ 32) ⌝ }
+    ensures { λ r. ⌜ r ≡ among (numbered (now (low .entry)) (now (high .entry)) i) (behind (now (low .entry)) (now (high .entry)) n (i + 1)) ⌝ }
+{
+    let mine = Identity {
+        low: low[i],
+        high: high[i],
+    };
+    let mut j = i + 1;
+    while j < n {
+        let other = Identity {
+            low: low[j],
+            high: high[j],
+        };
+        if same_identity(mine, other) {
+            return true;
+        }
+        j += 1;
     }
     false
 }
 
-// Whether no two records among the n slots of table k from a place on have one identity: from the last slot down, each against those behind it.
-pub fn distinct(k: usize, s: &[u8], place: usize, n: usize, w: u64) -> bool
-    requires { ⌜ (k < 6) × (n ≤ 32) × (place + ruleAt k .size * n ≤ length (now s)) ⌝ }
-    ensures { λ r. ⌜ r ≡ T.distinct (map (ruleAt k .key) (recordsAt (now (s .entry)) (ruleAt k .size) place n w)) ⌝ }
+// Whether no two of n identities are the same, each compared with those behind it.
+fn all_apart(low: &[u64; 32], high: &[u64; 32], n: usize) -> bool
+    requires { ⌜ (n ≤ 32) × (length (now low) ≡ 32) × (length (now high) ≡ 32) ⌝ }
+    ensures { λ r. ⌜ r ≡ apart (collected (now (low .entry)) (now (high .entry)) n) ⌝ }
 {
-    let size = size_of(k);
-    let mut at = place + size * n;
-    let mut j = n;
-    let mut seen: u64 = 0;
-    while 0 < j {
-        let here = at - size;
-        let v = w >> (j - 1);
-        if v % 2 == 1 {
-            if again(k, s, here, n - j, v / 2, seen) {
-                return false;
-            }
-            let m = mark_of(k, s, here);
-            seen = seen | (1 << m);
+    let mut i: usize = 0;
+    while i < n {
+        if repeated_behind(low, high, i, n) {
+            return false;
         }
-        at = here;
-        j = j - 1;
+        i += 1;
     }
     true
 }
 
-// Whether the records among the n slots of table k from a place on keep the table's rule: each its own, and none is repeated.
-pub fn keeps_rule(k: usize, s: &[u8], place: usize, n: usize, w: u64) -> bool
-    requires { ⌜ (k < 6) × (n ≤ 32) × (place + ruleAt k .size * n ≤ length (now s)) ⌝ }
-    ensures { λ r. ⌜ r ≡ T.recordsOk (ruleAt k) (recordsAt (now (s .entry)) (ruleAt k .size) place n w) ⌝ }
+// Whether no two of n identities are the same. They are compared only where two marks are the same.
+pub fn distinct_identities(low: &[u64; 32], high: &[u64; 32], n: usize) -> bool
+    requires { ⌜ (n ≤ 32) × (length (now low) ≡ 32) × (length (now high) ≡ 32) ⌝ }
+    ensures { λ r. ⌜ r ≡ apart (collected (now (low .entry)) (now (high .entry)) n) ⌝ }
 {
-    if all_ok(k, s, place, n, w) {
-        return distinct(k, s, place, n, w);
+    let marks = marks_of(low, high, n);
+    if marks::meet(&marks) {
+        return all_apart(low, high, n);
+    }
+    true
+}
+
+// Whether no two records among the n slots of table k from a place on have one identity.
+pub fn distinct(k: usize, s: &[u8], place: usize, n: usize, w: u64) -> bool
+    requires { ⌜ (k < 6) × (n ≤ 32) × (place + ruleAt k .size * n ≤ length (now s)) ⌝ }
+    ensures { λ r. ⌜ r ≡ T.distinct (map (ruleAt k .key) (recordsAt (now (s .entry)) (ruleAt k .size) place n w)) ⌝ }
+{
+    let mut low: [u64; 32] = [0; 32];
+    let mut high: [u64; 32] = [0; 32];
+    let found = collect(k, s, place, n, w, &mut low, &mut high);
+    distinct_identities(&low, &high, found)
+}
+
+// Whether of the n slots of table k from a place on the free ones are zero and the records keep the table's rule: each its own, and none is
+// repeated. One walk looks at the slots and marks the records; identities are compared only where two marks are the same.
+pub fn slots_fine(k: usize, s: &[u8], place: usize, n: usize, w: u64) -> bool
+    requires { ⌜ (k < 6) × (n ≤ 32) × (place + ruleAt k .size * n ≤ length (now s)) ⌝ }
+    ensures { λ r. ⌜ r ≡ freeZero (now (s .entry)) (ruleAt k .size) place n w
+        && T.recordsOk (ruleAt k) (recordsAt (now (s .entry)) (ruleAt k .size) place n w) ⌝ }
+{
+    let mut marks = marks::no_marks();
+    if table_slots_ok(k, s, place, n, w, &mut marks) {
+        if marks::meet(&marks) {
+            return distinct(k, s, place, n, w);
+        }
+        return true;
     }
     false
+}
+
+// Whether the n records of table k in a list from a place on keep the table's rule. The word is that of a list: no slot is free.
+pub fn keeps_rule(k: usize, s: &[u8], place: usize, n: usize, w: u64) -> bool
+    requires { ⌜ (k < 6) × (n ≤ 32) × (place + ruleAt k .size * n ≤ length (now s)) × (w ≡ 2 ^ n - 1) ⌝ }
+    ensures { λ r. ⌜ r ≡ T.recordsOk (ruleAt k) (recordsAt (now (s .entry)) (ruleAt k .size) place n w) ⌝ }
+{
+    slots_fine(k, s, place, n, w)
 }
 
 // The word of a list of n records: all n slots are in use.

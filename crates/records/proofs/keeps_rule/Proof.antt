@@ -1,22 +1,22 @@
--- `records::keeps_rule` meets its contract, which is the conjunction of its two callees'.
-use Rattle.model.specs.Tables.{recordsOk}
+-- `records::keeps_rule` meets its contract: of a list no slot is free, so that nothing else is to be zero.
+use mathlib.Core.Path.{_≡_, _∙_}
+use mathlib.Core.Bool.{true}
+use Rattle.model.specs.Tables.{ruleAt}
+use Rattle.records.specs.Slots.{freeZero, list-free}
 use borrow.Author.Needs.{needs}
 use Rattle.records.proofs.keeps_rule.Statement.{statement}
 use Rattle.records.proofs.keeps_rule.Tie as tie
 
-all-ok-requires : tie.Need-all-ok-requires
-all-ok-requires c κs = search needs
-
-distinct-requires : tie.Need-distinct-requires
-distinct-requires c κs = search needs
+slots-fine-requires : tie.Need-slots-fine-requires
+slots-fine-requires c κs = search needs
 
 returns : tie.Need-returns
-unfolding recordsOk
-returns c = rw (← c .before .before .all-ok .ensures, c .before .if1 .taken) (c .distinct .ensures)
-
-returns-2 : tie.Need-returns-2
-unfolding recordsOk
-returns-2 c = rw (← c .before .all-ok .ensures, c .if1 .left)
+returns c =
+    let a = c .before .before .args in
+    let s = a .s .now in
+    let size = ruleAt (a .k) .size in
+    let free : freeZero s size (a .place) (a .n) (a .w) ≡ true = rw (c .before .before .pre .3) (list-free s size (a .place) (a .n)) in
+    c .slots-fine .ensures ∙ rw free
 
 pub keeps-rule-spec : {M : Type 1} → statement M
-keeps-rule-spec = tie.close (tie.spec all-ok-requires distinct-requires returns returns-2)
+keeps-rule-spec = tie.close (tie.spec slots-fine-requires returns)
