@@ -13,8 +13,8 @@
  * Whatever else is passed is answered by a number, never by undefined behaviour: any octets in any buffer, buffers of any length, any index and
  * status. No buffer needs an alignment. The library keeps nothing between calls, so calls on different states may run at the same time.
  *
- * After HUB_BAD_STATE the state buffer is not what a call left: something else wrote it, or nothing was ever loaded. The call has done nothing, and
- * every call but hub_load will answer the same. Load the last image that was saved, or the empty one. What an image does not hold is lost: power,
+ * After HUB_BAD_STATE the state buffer is not what a call left: something else wrote it, nothing was ever loaded, or its length is not HUB_STATE_LEN,
+ * which no call mends. The call has done nothing, and every call but hub_load will answer the same. Load the last image that was saved, or the empty one. What an image does not hold is lost: power,
  * discoverable, timers, the clock, commands under way. Reports for those are answered 6, so the host tells their clients itself.
  *
  * After HUB_STARTED the command waits, without a limit of time, for hub_report or hub_unplug of its index; until then Set Powered, Set Discoverable,
@@ -79,7 +79,7 @@ struct hub_frame {
 /*
  * Tells the packets of a reply apart: the one that begins at *position, which is moved behind it. Start at 0 and go on while it returns 1; it returns
  * 0 at the end and where the octets up to count are no whole packet, with *position as it was, so that *position == count says that all was read.
- * No octet past the count is looked at. (What hub_save writes is an image, not packets.)
+ * No octet past the count is looked at. (What hub_save writes is an image and what hub_name writes a name, not packets.)
  */
 static inline int hub_next_frame(const uint8_t *reply, size_t count, size_t *position, struct hub_frame *frame)
 {

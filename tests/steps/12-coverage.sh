@@ -2,6 +2,8 @@
 # each name in docs/COVERAGE.md is a definition, a function or a file that exists
 set -euo pipefail
 cd "$(dirname "$0")/../.."
+. tests/steps/tools.sh
+need awk comm grep sort
 export LC_ALL=C
 list=docs/COVERAGE.md
 
