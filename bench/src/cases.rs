@@ -1,6 +1,7 @@
 //! The calls that are timed: each case leaves the hub as it found it, so that it can go on and on.
 
 use crate::library::Library;
+use crate::states::{self, Kind};
 use compare::Target;
 use reference::{Call, Hub};
 
@@ -34,13 +35,10 @@ fn command(code: u16, parameters: &[u8]) -> Call {
     Call::Command { packet, room: 1024 }
 }
 
-/// Load Long Term Keys with 32 records whose addresses differ in the first octet.
-fn long_term_keys() -> Call {
+/// Load Long Term Keys with 32 records of a kind.
+fn long_term_keys(kind: Kind) -> Call {
     let mut parameters = vec![32, 0];
-    for k in 1..=32 {
-        parameters.extend([k, 0x22, 0x33, 0x44, 0x55, 0x66, 1, 0, 0, 16]);
-        parameters.extend([0; 26]);
-    }
+    parameters.extend(states::list(2, kind));
     command(0x0013, &parameters)
 }
 
@@ -54,11 +52,12 @@ pub fn nothing() -> Case {
     Case { name: "nothing", calls: vec![Call::Save { room: 0 }] }
 }
 
-/// Every case.
-pub fn all() -> Vec<Case> {
+/// Every case on a state with records of a kind.
+pub fn all(kind: Kind, state: &[u8]) -> Vec<Case> {
     let stranger = [0xEE, 0x22, 0x33, 0x44, 0x55, 0x66, 1];
     let device = [0xEE, 0x22, 0x33, 0x44, 0x55, 0x66, 1, 1];
-    let known = [1, 0x22, 0x33, 0x44, 0x55, 0x66, 1];
+    let first = &state[4 + states::WORDS[4] + 4..][..7];
+    let known = if first[..6] == [0; 6] { &stranger } else { first };
     let case = |name, calls| Case { name, calls };
     vec![
         case("set_bondable", vec![command(0x0009, &[1]), command(0x0009, &[0])]),
@@ -67,9 +66,9 @@ pub fn all() -> Vec<Case> {
             vec![command(0x0005, &[1]), report(), command(0x0005, &[0]), report()],
         ),
         case("read_information", vec![command(0x0004, &[])]),
-        case("load_long_term_keys_32", vec![long_term_keys()]),
+        case("load_long_term_keys_32", vec![long_term_keys(kind)]),
         case("add_and_remove_device", vec![command(0x0033, &device), command(0x0034, &stranger)]),
-        case("unblock_and_block", vec![command(0x0027, &known), command(0x0026, &known)]),
+        case("unblock_and_block", vec![command(0x0027, known), command(0x0026, known)]),
         case("clock", vec![Call::Clock { reading: 0, room: 1024 }]),
         case("save", vec![Call::Save { room: 16_014 }]),
     ]

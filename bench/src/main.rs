@@ -1,8 +1,11 @@
-//! The library beside plain Rust, same calls, same run: a line `NAME ratio X.XX` for each case, our time over plain Rust's.
+//! The library beside plain Rust, same calls, same run: a line `NAME ratio X.XX` for each case, our time over plain Rust's, and how many times one
+//! memcmp of a state ours is; last the worst of them.
 //!
 //! The plain hub keeps its state in its own structures. A hub that works on a lent state has to look whether that state is well formed before
 //! each call, so the plain hub is timed with a plain test of the same octets. The line also tells both times without the test: ours is
 //! what a call takes more than a save without room, which looks at the state and does nothing else.
+//!
+//! The records of a state differ in the first octet of their identity, in the last, or at random in all.
 
 mod cases;
 #[path = "../../tests/compare/src/library.rs"]
@@ -14,14 +17,41 @@ use cases::Case;
 use compare::Target;
 use library::Library;
 use reference::Hub;
+use states::{Kind, KINDS};
 use std::hint::black_box;
 use std::time::Instant;
 
 /// Rounds, and turns of a case in a round.
 const ROUNDS: usize = 40;
-const TURNS: u32 = 100;
+const TURNS: u32 = 50;
 /// How full the tables are: a name, and the records in each table of each of four controllers.
 const FILLS: [(&str, usize); 4] = [("empty", 0), ("quarter", 8), ("half", 16), ("full", 32)];
+
+/// A state, and the name of its fill and kind.
+struct Data {
+    name: String,
+    kind: Kind,
+    used: usize,
+    state: Vec<u8>,
+}
+
+/// Every fill in every kind. Without records there is one kind.
+fn data() -> Vec<Data> {
+    let mut all = Vec::new();
+    for (fill, used) in FILLS {
+        for (kind_name, kind) in KINDS {
+            match used {
+                0 if kind_name != KINDS[0].0 => continue,
+                0 => all.push(Data { name: fill.into(), kind, used, state: states::state(kind, 0) }),
+                _ => {
+                    let name = format!("{fill}_{kind_name}");
+                    all.push(Data { name, kind, used, state: states::state(kind, used) });
+                }
+            }
+        }
+    }
+    all
+}
 
 /// The least of some rounds' nanoseconds for one turn of each: the turns of a round follow each other, so that a slow moment hits all of them.
 fn least<const N: usize>(mut turns: [&mut dyn FnMut(); N]) -> [f64; N] {
@@ -34,6 +64,25 @@ fn least<const N: usize>(mut turns: [&mut dyn FnMut(); N]) -> [f64; N] {
         }
     }
     best
+}
+
+/// What was timed: the worst ratio with its name, and the least and the most that the test of a full state took.
+struct Seen {
+    worst: (f64, String),
+    full: (f64, f64),
+    read: f64,
+}
+
+impl Seen {
+    /// Prints the line of a case: our nanoseconds, plain Rust's, and what else there is to say.
+    fn line(&mut self, name: String, ours: f64, theirs: f64, more: String) {
+        let ratio = ours / theirs;
+        let times = ours / self.read;
+        println!("{name} ratio {ratio:.2}   ({ours:.0} ns beside {theirs:.0} ns, {times:.1} memcmp{more})");
+        if ratio > self.worst.0 {
+            self.worst = (ratio, name);
+        }
+    }
 }
 
 /// The image of a state.
@@ -67,44 +116,37 @@ fn theirs(case: &Case, hub: &mut Hub, lent: Option<&[u8]>) {
     }
 }
 
-/// Times one case at every fill.
-fn calls(case: &Case) {
+/// Times every case on a state.
+fn calls(data: &Data, seen: &mut Seen) {
     let nothing = cases::nothing();
-    for (fill, used) in FILLS {
-        let state = states::state(4, used);
-        let hub = plain_hub(&state);
-        case.agrees(&state, &hub);
-        let (mut lent, mut same) = (state.clone(), state.clone());
+    let hub = plain_hub(&data.state);
+    for case in cases::all(data.kind, &data.state) {
+        case.agrees(&data.state, &hub);
+        let (mut lent, mut same) = (data.state.clone(), data.state.clone());
         let (mut reply, mut none) = (vec![0; 16_014], Vec::new());
-        let (mut tested, mut alone) = (hub.clone(), hub);
+        let (mut tested, mut alone) = (hub.clone(), hub.clone());
         let [a, look, b, c] = least([
-            &mut || ours(case, &mut lent, &mut reply),
+            &mut || ours(&case, &mut lent, &mut reply),
             &mut || ours(&nothing, &mut same, &mut none),
-            &mut || theirs(case, &mut tested, Some(&state)),
-            &mut || theirs(case, &mut alone, None),
+            &mut || theirs(&case, &mut tested, Some(&data.state)),
+            &mut || theirs(&case, &mut alone, None),
         ]);
         let each = case.calls.len() as f64;
         let (a, b, c) = (a / each, b / each, c / each);
-        println!(
-            "{}_{fill} ratio {:.2}   ({a:.0} ns beside {b:.0} ns; without the test {:.0} ns beside {c:.0} ns)",
-            case.name,
-            a / b,
-            a - look
-        );
+        let more = format!("; without the test {:.0} ns beside {c:.0} ns", a - look);
+        seen.line(format!("{}_{}", case.name, data.name), a, b, more);
     }
 }
 
 /// Times load, which looks at no state before.
-fn loads() {
-    for (fill, used) in FILLS {
-        let image = image_of(&states::state(4, used));
-        let (mut state, mut hub) = (vec![0; states::STATE], Hub::new());
-        let [a, b] = least([
-            &mut || assert_eq!(Library.load(black_box(&mut state), black_box(&image)), 0),
-            &mut || assert_eq!(hub.load(black_box(&image)).answer, 0),
-        ]);
-        println!("load_{fill} ratio {:.2}   ({a:.0} ns beside {b:.0} ns, {} octets)", a / b, image.len());
-    }
+fn load(data: &Data, seen: &mut Seen) {
+    let image = image_of(&data.state);
+    let (mut state, mut hub) = (vec![0; states::STATE], Hub::new());
+    let [a, b] =
+        least([&mut || assert_eq!(Library.load(black_box(&mut state), black_box(&image)), 0), &mut || {
+            assert_eq!(hub.load(black_box(&image)).answer, 0)
+        }]);
+    seen.line(format!("load_{}", data.name), a, b, format!("; {} octets", image.len()));
 }
 
 /// Whether the library takes octets for a well-formed state: a save without room answers 4, and 5 where it does not.
@@ -113,39 +155,58 @@ fn well_formed(state: &mut [u8]) -> bool {
 }
 
 /// Times the test of a state alone.
-fn tests() {
-    for (fill, used) in FILLS {
-        let mut state = states::state(4, used);
-        assert!(well_formed(&mut state) && plain::well_formed(&state), "{fill}");
-        let same = state.clone();
-        let [a, b] = least([&mut || assert!(well_formed(black_box(&mut state))), &mut || {
-            assert!(plain::well_formed(black_box(&same)))
-        }]);
-        println!(
-            "well_formed_{fill} ratio {:.2}   ({a:.0} ns beside {b:.0} ns, {} records)",
-            a / b,
-            24 * used
-        );
+fn test(data: &Data, seen: &mut Seen) {
+    let mut state = data.state.clone();
+    assert!(well_formed(&mut state) && plain::well_formed(&state), "{}", data.name);
+    let [a, b] = least([&mut || assert!(well_formed(black_box(&mut state))), &mut || {
+        assert!(plain::well_formed(black_box(&data.state)))
+    }]);
+    seen.line(format!("well_formed_{}", data.name), a, b, format!("; {} records", 24 * data.used));
+    if data.used == 32 {
+        seen.full = (seen.full.0.min(a), seen.full.1.max(a));
     }
 }
 
+/// The nanoseconds of one memcmp of a state with its copy.
+fn read() -> f64 {
+    let state = states::state(Kind::Random, 32);
+    let copy = state.clone();
+    let [a] = least([&mut || assert!(black_box(&state[..]) == black_box(&copy[..]))]);
+    a
+}
+
 /// Every one-octet change of a full state is judged alike.
-fn judged_alike() {
-    let mut state = states::state(4, 32);
+fn judged_alike(data: &Data) {
+    let mut state = data.state.clone();
     for k in 0..state.len() {
         let old = state[k];
         for x in [old ^ 1, old.wrapping_add(0x80), 0] {
             state[k] = x;
-            assert_eq!(well_formed(&mut state), plain::well_formed(&state), "octet {k} made {x}");
+            assert_eq!(
+                well_formed(&mut state),
+                plain::well_formed(&state),
+                "{}: octet {k} made {x}",
+                data.name
+            );
         }
         state[k] = old;
     }
-    println!("well_formed agrees on every octet of a full state changed");
+    println!("well_formed agrees on every octet of {} changed", data.name);
 }
 
 fn main() {
-    tests();
-    cases::all().iter().for_each(calls);
-    loads();
-    judged_alike();
+    let data = data();
+    let mut seen = Seen { worst: (0.0, String::new()), full: (f64::INFINITY, 0.0), read: read() };
+    println!("one memcmp of a state takes {:.0} ns", seen.read);
+    data.iter().for_each(|d| test(d, &mut seen));
+    data.iter().for_each(|d| calls(d, &mut seen));
+    data.iter().for_each(|d| load(d, &mut seen));
+    data.iter().filter(|d| d.used == 32).for_each(judged_alike);
+    let (least, most) = seen.full;
+    println!(
+        "the test of a full state takes {:.1} memcmp; the slowest kind takes {:.2} times as long as the quickest",
+        most / seen.read,
+        most / least
+    );
+    println!("worst ratio {:.2}   ({})", seen.worst.0, seen.worst.1);
 }

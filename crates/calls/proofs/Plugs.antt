@@ -19,7 +19,8 @@ use Rattle.model.specs.State.{OpenCommand, PlainHub, controllerAt, hardwareOk, 
 use Rattle.model.specs.Hub.{Outcome, finished, badArgument, answerOf, octetsOf, stateOf, owedTo, plugOut, underWay, unplugOut, unplugged}
 use Rattle.model.specs.Layout.{encode, decode}
 use Rattle.model.specs.Meanings.{laidOut, stateOk}
-use Rattle.octets.specs.Parts.{part, length-part, writeAt}
+use Rattle.octets.specs.Parts.{part, writeAt}
+use Rattle.octets.proofs.Parts.{length-part}
 use Rattle.layout.specs.Places.{Ready, emptied, openAt, placeOf, presentAt, putController}
 use Rattle.layout.proofs.Reading.{absent-controller, present-controller, ready}
 use Rattle.layout.proofs.Open.{open-nothing, open-command}

@@ -12,6 +12,8 @@ use lib.Seq.{drop-cons, take-take}
 use lib.Bits.{bitOr, and-le-r, or-add-and, or-zero-l}
 use lib.Dec.{eqb, ltb}
 use borrow.Author.Tests.{eq-eqb, ne-eqb, eqb-true, eqb-false, le-leb, lt-leb, le-ltb, lt-ltb}
+use Rattle.model.specs.Codes as Codes
+use Rattle.model.specs.Lengths as Lengths
 use Rattle.model.specs.declared.Hardware.{Hardware}
 use Rattle.model.specs.declared.RadioSettings.{RadioSettings}
 use Rattle.model.specs.declared.Settings.{Settings}
@@ -26,18 +28,22 @@ use Rattle.model.specs.Proof.Tests.{and-true, or-true, and-off}
 use Rattle.model.specs.Rules.{setConnectable, setDiscoverable, setLowEnergy, setPowered}
 use Rattle.layout.specs.Places.{base, controllerOf, placeOf, presentAt, sizes}
 use Rattle.layout.proofs.Reading.{name-at}
-use Rattle.octets.specs.Parts.{getD-part, length-part, part, placeAt}
+use Rattle.octets.specs.Parts.{part, placeAt}
+use Rattle.octets.proofs.Parts.{getD-part, length-part}
 use Rattle.octets.proofs.Laws.{part-suc}
 use Rattle.rules.specs.declared.Decision.{Decision}
 use Rattle.rules.specs.Decisions.{decision, isStarted, settingsOk}
-use Rattle.checks.specs.Tests.{and-on}
+use Rattle.checks.proofs.Tests.{and-on}
 use Rattle.checks.specs.Settings.{flagsOctetsOk}
 use Rattle.checks.specs.Present.{blockAt, controllerOctetsOk}
-use Rattle.checks.specs.Slots.{zero-rest}
-use Rattle.checks.specs.Tables.{drop-part, tableOctetsOk, tablesOctetsOk, total, assoc}
-use Rattle.records.specs.Slots.{freeZero, no-slots, recordsAt}
+use Rattle.checks.proofs.Slots.{zero-rest}
+use Rattle.checks.specs.Tables.{tableOctetsOk, tablesOctetsOk}
+use Rattle.checks.proofs.Tables.{drop-part, total, assoc}
+use Rattle.records.specs.Slots.{freeZero, recordsAt}
+use Rattle.records.proofs.Slots.{no-slots}
 use Rattle.table.specs.Slots.{tableAt}
-use Rattle.checks.specs.Open.{fine-connectable, fine-discoverable, fine-low-energy, fine-none, fine-other, fine-powered, fine-some, openOctetsOk, startedOctetsOk}
+use Rattle.checks.specs.Open.{openOctetsOk, startedOctetsOk}
+use Rattle.checks.proofs.Open.{fine-connectable, fine-discoverable, fine-low-energy, fine-none, fine-other, fine-powered, fine-some}
 use Rattle.layout.proofs.Tables.{rules-six}
 
 -- a test of the code, as the model's test
@@ -66,7 +72,8 @@ pub blank-turn : (s : Octets) (at n i joined : ℕ) → i < n → at + n ≤ len
 blank-turn s at n i joined l h =
     let e : n - i ≡ suc (n - (i + 1)) = omega arith in
     let f : at + (i + 1) ≡ at + i + 1 = omega arith in
-    rw (e, f, or-zero joined (getD s (at + i) 0), zeros-suc s (at + i) (n - (i + 1)) (omega arith)) (assoc (eqb joined 0) (eqb (getD s (at + i) 0) 0) (allZero (part s (at + i + 1) (n - (i + 1)))))
+    rw (e, f, or-zero joined (getD s (at + i) 0), zeros-suc s (at + i) (n - (i + 1)) (omega arith))
+    (assoc (eqb joined 0) (eqb (getD s (at + i) 0) 0) (allZero (part s (at + i + 1) (n - (i + 1)))))
 
 -- before the first turn, the whole part is left
 pub blank-first : (s : Octets) (at n : ℕ) → allZero (part s (at + 0) (n - 0)) ≡ allZero (part s at n)
@@ -92,7 +99,8 @@ name-is s i at e = rw (e, ← name-at s i, getD-part s (placeOf i 4) 260 248 (om
 -- 3. The open command -------------------------------------------------------------------------------------------------------------------------
 
 -- nothing under way
-pub opens-none : (x : RadioSettings) (s : Octets) (at code : ℕ) → code ≡ u16 s at → code ≡ 0 → allZero (part s (at + 2) 3) ≡ openOctetsOk x (u16 s at) (part s (at + 2) 3)
+pub opens-none : (x : RadioSettings) (s : Octets) (at code : ℕ) → code ≡ u16 s at → code ≡ 0
+    → allZero (part s (at + 2) 3) ≡ openOctetsOk x (u16 s at) (part s (at + 2) 3)
 opens-none x s at code e z = sym (fine-none x (u16 s at) (part s (at + 2) 3) (sym e ∙ z))
 
 module _ (x : RadioSettings) (s : Octets) (at code : ℕ) (e : code ≡ u16 s at) (n : code ≡ 0 → ⊥) (h : at + 5 ≤ length s) where
@@ -119,42 +127,60 @@ module _ (x : RadioSettings) (s : Octets) (at code : ℕ) (e : code ≡ u16 s at
   fine = rw (← e) (sym (fine-some x code (part s (at + 2) 3) n))
 
   -- Set Discoverable uses all three: it is fine exactly if it would wait for the radio
-  pub opens-discoverable : code ≡ 6 → (d : Decision) → d ≡ decision setDiscoverable x (take (at + 5 - (at + 2)) (drop (at + 2) s)) → isStarted d ≡ openOctetsOk x (u16 s at) (part s (at + 2) 3)
+  pub opens-discoverable : code ≡ Codes.setDiscoverable → (d : Decision) → d ≡ decision setDiscoverable x (take (at + 5 - (at + 2)) (drop (at + 2) s))
+      → isStarted d ≡ openOctetsOk x (u16 s at) (part s (at + 2) 3)
   opens-discoverable q d f = rw (f, all-lent) (sym (fine-discoverable x (part s (at + 2) 3) three code q) ∙ fine)
 
   -- one parameter octet, and zeros behind it
   module _ (z : allZero (part s (at + 3) 2) ≡ true) where
     -- Set Powered is fine exactly if it would wait for the radio
-    pub opens-powered : code ≡ 5 → (d : Decision) → d ≡ decision setPowered x (take (at + 3 - (at + 2)) (drop (at + 2) s)) → isStarted d ≡ openOctetsOk x (u16 s at) (part s (at + 2) 3)
-    opens-powered q d f = rw (f, first-lent) (sym (fine-powered x (part s (at + 2) 3) three code q ∙ rw (rest, z) (and-on (isStarted (decision setPowered x (take 1 (part s (at + 2) 3)))))) ∙ fine)
+    pub opens-powered : code ≡ Codes.setPowered → (d : Decision) → d ≡ decision setPowered x (take (at + 3 - (at + 2)) (drop (at + 2) s))
+        → isStarted d ≡ openOctetsOk x (u16 s at) (part s (at + 2) 3)
+    opens-powered q d f =
+        rw (f, first-lent) (sym (fine-powered x (part s (at + 2) 3) three code q
+        ∙ rw (rest, z) (and-on (isStarted (decision setPowered x (take 1 (part s (at + 2) 3)))))) ∙ fine)
 
     -- the same, of Set Connectable
-    pub opens-connectable : code ≡ 7 → (d : Decision) → d ≡ decision setConnectable x (take (at + 3 - (at + 2)) (drop (at + 2) s)) → isStarted d ≡ openOctetsOk x (u16 s at) (part s (at + 2) 3)
-    opens-connectable q d f = rw (f, first-lent) (sym (fine-connectable x (part s (at + 2) 3) three code q ∙ rw (rest, z) (and-on (isStarted (decision setConnectable x (take 1 (part s (at + 2) 3)))))) ∙ fine)
+    pub opens-connectable : code ≡ Codes.setConnectable → (d : Decision) → d ≡ decision setConnectable x (take (at + 3 - (at + 2)) (drop (at + 2) s))
+        → isStarted d ≡ openOctetsOk x (u16 s at) (part s (at + 2) 3)
+    opens-connectable q d f =
+        rw (f, first-lent) (sym (fine-connectable x (part s (at + 2) 3) three code q
+        ∙ rw (rest, z) (and-on (isStarted (decision setConnectable x (take 1 (part s (at + 2) 3)))))) ∙ fine)
 
     -- the same, of Set Low Energy
-    pub opens-low-energy : code ≡ 13 → (d : Decision) → d ≡ decision setLowEnergy x (take (at + 3 - (at + 2)) (drop (at + 2) s)) → isStarted d ≡ openOctetsOk x (u16 s at) (part s (at + 2) 3)
-    opens-low-energy q d f = rw (f, first-lent) (sym (fine-low-energy x (part s (at + 2) 3) three code q ∙ rw (rest, z) (and-on (isStarted (decision setLowEnergy x (take 1 (part s (at + 2) 3)))))) ∙ fine)
+    pub opens-low-energy : code ≡ Codes.setLowEnergy → (d : Decision) → d ≡ decision setLowEnergy x (take (at + 3 - (at + 2)) (drop (at + 2) s))
+        → isStarted d ≡ openOctetsOk x (u16 s at) (part s (at + 2) 3)
+    opens-low-energy q d f =
+        rw (f, first-lent) (sym (fine-low-energy x (part s (at + 2) 3) three code q
+        ∙ rw (rest, z) (and-on (isStarted (decision setLowEnergy x (take 1 (part s (at + 2) 3)))))) ∙ fine)
 
   -- no other command waits
-  pub opens-other : (code ≡ 6 → ⊥) → (code ≡ 5 → ⊥) → (code ≡ 7 → ⊥) → (code ≡ 13 → ⊥) → false ≡ openOctetsOk x (u16 s at) (part s (at + 2) 3)
+  pub opens-other : (code ≡ Codes.setDiscoverable → ⊥) → (code ≡ Codes.setPowered → ⊥) → (code ≡ Codes.setConnectable → ⊥)
+      → (code ≡ Codes.setLowEnergy → ⊥) → false ≡ openOctetsOk x (u16 s at) (part s (at + 2) 3)
   opens-other a b c d = sym (fine-other x (part s (at + 2) 3) code b a c d) ∙ fine
 
   -- and none of one parameter octet has others behind it
-  pub opens-more : (code ≡ 6 → ⊥) → allZero (part s (at + 3) 2) ≡ false → false ≡ openOctetsOk x (u16 s at) (part s (at + 2) 3)
-  opens-more a z = five (eqb code 5) refl
+  pub opens-more : (code ≡ Codes.setDiscoverable → ⊥) → allZero (part s (at + 3) 2) ≡ false → false ≡ openOctetsOk x (u16 s at) (part s (at + 2) 3)
+  opens-more a z = five (eqb code Codes.setPowered) refl
     where
-      thirteen : (y : Bool) → eqb code 13 ≡ y → (code ≡ 5 → ⊥) → (code ≡ 7 → ⊥) → false ≡ openOctetsOk x (u16 s at) (part s (at + 2) 3)
-      thirteen true q b c = sym (fine-low-energy x (part s (at + 2) 3) three code (eqb-true code 13 q) ∙ rw (rest, z) (and-off (isStarted (decision setLowEnergy x (take 1 (part s (at + 2) 3)))))) ∙ fine
+      thirteen : (y : Bool) → eqb code Codes.setLowEnergy ≡ y → (code ≡ Codes.setPowered → ⊥) → (code ≡ Codes.setConnectable → ⊥)
+          → false ≡ openOctetsOk x (u16 s at) (part s (at + 2) 3)
+      thirteen true q b c =
+          sym (fine-low-energy x (part s (at + 2) 3) three code (eqb-true code 13 q)
+          ∙ rw (rest, z) (and-off (isStarted (decision setLowEnergy x (take 1 (part s (at + 2) 3)))))) ∙ fine
       thirteen false q b c = opens-other a b c (eqb-false code 13 q)
 
-      seven : (y : Bool) → eqb code 7 ≡ y → (code ≡ 5 → ⊥) → false ≡ openOctetsOk x (u16 s at) (part s (at + 2) 3)
-      seven true q b = sym (fine-connectable x (part s (at + 2) 3) three code (eqb-true code 7 q) ∙ rw (rest, z) (and-off (isStarted (decision setConnectable x (take 1 (part s (at + 2) 3)))))) ∙ fine
-      seven false q b = thirteen (eqb code 13) refl b (eqb-false code 7 q)
+      seven : (y : Bool) → eqb code Codes.setConnectable ≡ y → (code ≡ Codes.setPowered → ⊥) → false ≡ openOctetsOk x (u16 s at) (part s (at + 2) 3)
+      seven true q b =
+          sym (fine-connectable x (part s (at + 2) 3) three code (eqb-true code 7 q)
+          ∙ rw (rest, z) (and-off (isStarted (decision setConnectable x (take 1 (part s (at + 2) 3)))))) ∙ fine
+      seven false q b = thirteen (eqb code Codes.setLowEnergy) refl b (eqb-false code 7 q)
 
-      five : (y : Bool) → eqb code 5 ≡ y → false ≡ openOctetsOk x (u16 s at) (part s (at + 2) 3)
-      five true q = sym (fine-powered x (part s (at + 2) 3) three code (eqb-true code 5 q) ∙ rw (rest, z) (and-off (isStarted (decision setPowered x (take 1 (part s (at + 2) 3)))))) ∙ fine
-      five false q = seven (eqb code 7) refl (eqb-false code 5 q)
+      five : (y : Bool) → eqb code Codes.setPowered ≡ y → false ≡ openOctetsOk x (u16 s at) (part s (at + 2) 3)
+      five true q =
+          sym (fine-powered x (part s (at + 2) 3) three code (eqb-true code 5 q)
+          ∙ rw (rest, z) (and-off (isStarted (decision setPowered x (take 1 (part s (at + 2) 3)))))) ∙ fine
+      five false q = seven (eqb code Codes.setConnectable) refl (eqb-false code 5 q)
 
 -- 4. Tables -----------------------------------------------------------------------------------------------------------------------------------
 
@@ -202,7 +228,9 @@ module _ (u : TableRule) (f : Hardware) (s : Octets) (at w : ℕ) (q : w ≡ u32
   pub table-told : passes (u .support f) ≡ true
       → freeZero s (u .size) (at + 4) 32 w && recordsOk u (recordsAt s (u .size) (at + 4) 32 w) ≡ tableOctetsOk u f s at
   unfolding tableOctetsOk supportOk
-  table-told p = sym (rw (records-are, p, or-true (empty (recordsAt s (u .size) (at + 4) 32 w)), ← q) (swapped (recordsOk u (recordsAt s (u .size) (at + 4) 32 w)) (freeZero s (u .size) (at + 4) 32 w)))
+  table-told p =
+      sym (rw (records-are, p, or-true (empty (recordsAt s (u .size) (at + 4) 32 w)), ← q)
+      (swapped (recordsOk u (recordsAt s (u .size) (at + 4) 32 w)) (freeZero s (u .size) (at + 4) 32 w)))
     where
       swapped : (a b : Bool) → a && b ≡ b && a
       swapped true true = refl
@@ -223,12 +251,14 @@ module _ (s : Octets) (at k : ℕ) (l : k < 6) where
   tables-room end h = let g : at + total (ruleAt k ∷ drop (k + 1) tableRules) ≤ end = rw (rules-from k l) at h in omega arith
 
   -- they are fine if table k is, and those behind it are from its end on
-  next : (f : Hardware) → tablesOctetsOk f (drop k tableRules) s at ≡ tableOctetsOk (ruleAt k) f s at && tablesOctetsOk f (drop (k + 1) tableRules) s (at + (4 + ruleAt k .size * 32))
+  next : (f : Hardware) → tablesOctetsOk f (drop k tableRules) s at ≡ tableOctetsOk (ruleAt k) f s at
+      && tablesOctetsOk f (drop (k + 1) tableRules) s (at + (4 + ruleAt k .size * 32))
   unfolding tablesOctetsOk
   next f = rw (rules-from k l)
 
   -- where table k is fine, those behind it tell
-  pub tables-turn : (f : Hardware) → tableOctetsOk (ruleAt k) f s at ≡ true → tablesOctetsOk f (drop (k + 1) tableRules) s (at + (4 + ruleAt k .size * 32)) ≡ tablesOctetsOk f (drop k tableRules) s at
+  pub tables-turn : (f : Hardware) → tableOctetsOk (ruleAt k) f s at ≡ true
+      → tablesOctetsOk f (drop (k + 1) tableRules) s (at + (4 + ruleAt k .size * 32)) ≡ tablesOctetsOk f (drop k tableRules) s at
   tables-turn f e = sym (next f ∙ rw e)
 
   -- where table k is not fine, none behind it can mend that
@@ -265,5 +295,5 @@ unfolding presentAt
 absent-other s i l e = eqb-false (getD s (base i) 0) 1 (rw (lt-ltb i 4 l) at e)
 
 -- zeros from the place of the block on
-pub blank-block : (s : Octets) (i b : ℕ) → b ≡ base i → allZero (part s b 4028) ≡ allZero (blockAt s i)
+pub blank-block : (s : Octets) (i b : ℕ) → b ≡ base i → allZero (part s b Lengths.block) ≡ allZero (blockAt s i)
 blank-block s i b e = rw e

@@ -1,103 +1,14 @@
 -- Hardware and settings where they lie: the hardware's octets are always the one encoding of what they mean, the settings' are if each of the
 -- five flags is 0 or 1.
-use Prim.Native.Nat.{ℕ, zero, suc, _+_, _<_, _≤_}
-use native.Mathlib.Omega.{arith}
-use mathlib.Core.Path.{_≡_, refl, _∙_}
-use mathlib.Core.Bool.{Bool, true, false, _&&_}
-use mathlib.Core.List.{[], _∷_, _++_}
-use lib.ListN.{length, getD}
-use lib.Seq.{drop-cons}
-use lib.Dec.{eqb, leb}
-use borrow.Author.Tests.{lt-leb, ne-eqb}
-use Rattle.model.specs.declared.Hardware.{Hardware}
-use Rattle.model.specs.Octets.{Octets, bytes, le16, same}
-use Rattle.model.specs.State.{flag}
-use Rattle.model.specs.Layout.{hardwarePart, settingsPart}
-use Rattle.model.specs.Proof.Tables.{same-refl}
-use Rattle.octets.specs.Parts.{length-part, part}
-use Rattle.layout.proofs.Reading.{hardwareFrom, settingsFrom}
-use Rattle.checks.specs.Tests.{and-on, le16-part, le32-part, part-add, same-append}
+use Prim.Native.Nat.{ℕ, _+_}
+use mathlib.Core.Bool.{Bool, _&&_}
+use lib.ListN.{getD}
+use lib.Dec.{leb}
+use Rattle.model.specs.Octets.{Octets}
 
--- a part in two, the places as they are named
-pub part-cut : (s : Octets) (a m n b l : ℕ) → b ≡ a + m → l ≡ m + n → part s a l ≡ part s a m ++ part s b n
-part-cut s a m n b l e f = rw (e, f) (part-add s a m n)
-
--- one octet
-pub one-octet : (s : Octets) (a : ℕ) → a < length s → part s a 1 ≡ getD s a 0 ∷ []
-unfolding part
-one-octet s a h = rw (drop-cons s a 0 h)
-
--- five octets
-five-octets : (s : Octets) (a b c d e : ℕ) → b ≡ suc a → c ≡ suc b → d ≡ suc c → e ≡ suc d → e < length s → part s a 5 ≡ getD s a 0 ∷ getD s b 0 ∷ getD s c 0 ∷ getD s d 0 ∷ getD s e 0 ∷ []
-unfolding part
-five-octets s a b c d e f g h i l =
-    rw (
-      i,
-      h,
-      g,
-      f,
-      drop-cons s a 0 (omega arith),
-      drop-cons s (suc a) 0 (omega arith),
-      drop-cons s (suc (suc a)) 0 (omega arith),
-      drop-cons s (suc (suc (suc a))) 0 (omega arith),
-      drop-cons s (suc (suc (suc (suc a)))) 0 (omega arith),
-    )
-
--- 1. The hardware -----------------------------------------------------------------------------------------------------------------------------
-
--- the hardware's thirteen octets are the one encoding of what they mean, whatever they are
-pub hardware-same : (s : Octets) (b : ℕ) → bytes s ≡ true → b + 19 ≤ length s → part s (b + 6) 13 ≡ hardwarePart (hardwareFrom s b)
-unfolding hardwarePart hardwareFrom
-hardware-same s b w h =
-    rw (
-      part-cut s (b + 6) 1 12 (b + 7) 13 (omega arith) refl,
-      part-cut s (b + 7) 2 10 (b + 9) 12 (omega arith) refl,
-      part-cut s (b + 9) 4 6 (b + 13) 10 (omega arith) refl,
-      one-octet s (b + 6) (omega arith),
-      ← le16-part s (b + 7) w (omega arith),
-      ← le32-part s (b + 9) w (omega arith),
-    )
-
--- 2. The settings -----------------------------------------------------------------------------------------------------------------------------
+-- 1. The settings -----------------------------------------------------------------------------------------------------------------------------
 
 -- each of the five flags of the block that begins at b is 0 or 1
 unfoldable pub flagsOctetsOk : Octets → ℕ → Bool
-flagsOctetsOk s b = leb (getD s (b + 19) 0) 1 && (leb (getD s (b + 20) 0) 1 && (leb (getD s (b + 21) 0) 1 && (leb (getD s (b + 22) 0) 1 && leb (getD s (b + 23) 0) 1)))
-
--- an octet is that of the flag it means if it is 0 or 1
-flag-same : (x : ℕ) → eqb x (flag (eqb x 1) 1) ≡ leb x 1
-unfolding flag
-flag-same zero = refl
-flag-same (suc zero) = refl
-flag-same (suc (suc x)) = many x
-  where
-    many : (x : ℕ) → eqb (suc (suc x)) (flag (eqb (suc (suc x)) 1) 1) ≡ leb (suc (suc x)) 1
-    many x =
-        let e : eqb (suc (suc x)) 1 ≡ false = ne-eqb (suc (suc x)) 1 (λ q. omega arith) in
-        let f : eqb (suc (suc x)) 0 ≡ false = ne-eqb (suc (suc x)) 0 (λ q. omega arith) in
-        let g : leb (suc (suc x)) 1 ≡ false = lt-leb (suc (suc x)) 1 (omega arith) in
-        rw (e, f, g)
-
--- the same, of five flags in a row
-flags-same : (a b c d e : ℕ) → same (a ∷ b ∷ c ∷ d ∷ e ∷ []) (flag (eqb a 1) 1 ∷ flag (eqb b 1) 1 ∷ flag (eqb c 1) 1 ∷ flag (eqb d 1) 1 ∷ flag (eqb e 1) 1 ∷ [])
-    ≡ leb a 1 && (leb b 1 && (leb c 1 && (leb d 1 && leb e 1)))
-unfolding same
-flags-same a b c d e = rw (flag-same a, flag-same b, flag-same c, flag-same d, flag-same e, and-on (leb e 1))
-
--- the settings that a block means take thirteen octets, as many as it has for them
-pub settings-long : (s : Octets) (b : ℕ) (f : Hardware) → b + 32 ≤ length s → length (settingsPart (settingsFrom s b f)) ≡ 13
-unfolding settingsPart settingsFrom le16
-settings-long s b f h = omega (arith, length-part s (b + 26) 6 (omega arith))
-
--- those thirteen octets are the one encoding of what they mean if the flags are 0 or 1
-pub settings-same : (s : Octets) (b : ℕ) (f : Hardware) → bytes s ≡ true → b + 32 ≤ length s → same (part s (b + 19) 13) (settingsPart (settingsFrom s b f)) ≡ flagsOctetsOk s b
-unfolding settingsPart settingsFrom flagsOctetsOk
-settings-same s b f w h =
-    let o : ℕ → ℕ = λ k. getD s k 0 in
-    let fs : Octets = flag (eqb (o (b + 19)) 1) 1 ∷ flag (eqb (o (b + 20)) 1) 1 ∷ flag (eqb (o (b + 21)) 1) 1 ∷ flag (eqb (o (b + 22)) 1) 1 ∷ flag (eqb (o (b + 23)) 1) 1 ∷ [] in
-    let r : Octets = part s (b + 24) 2 ++ part s (b + 26) 6 in
-    let c : part s (b + 19) 13 ≡ part s (b + 19) 5 ++ r = rw (part-cut s (b + 19) 5 8 (b + 24) 13 (omega arith) refl, part-cut s (b + 24) 2 6 (b + 26) 8 (omega arith) refl) in
-    let v : part s (b + 19) 5 ≡ o (b + 19) ∷ o (b + 20) ∷ o (b + 21) ∷ o (b + 22) ∷ o (b + 23) ∷ [] =
-    five-octets s (b + 19) (b + 20) (b + 21) (b + 22) (b + 23) (omega arith) (omega arith) (omega arith) (omega arith) (omega arith) in
-    let g : same (part s (b + 19) 5 ++ r) (fs ++ r) ≡ same (part s (b + 19) 5) fs && same r r = same-append (part s (b + 19) 5) r fs r (length-part s (b + 19) 5 (omega arith)) in
-    rw (c, le16-part s (b + 24) w (omega arith)) (g ∙ rw (same-refl r, v, and-on (same (o (b + 19) ∷ o (b + 20) ∷ o (b + 21) ∷ o (b + 22) ∷ o (b + 23) ∷ []) fs)) (flags-same (o (b + 19)) (o (b + 20)) (o (b + 21)) (o (b + 22)) (o (b + 23))))
+flagsOctetsOk s b =
+    leb (getD s (b + 19) 0) 1 && (leb (getD s (b + 20) 0) 1 && (leb (getD s (b + 21) 0) 1 && (leb (getD s (b + 22) 0) 1 && leb (getD s (b + 23) 0) 1)))

@@ -2,6 +2,7 @@
 ghost use mathlib.Core.Path.{_≡_};
 ghost use Prim.Native.Nat.{_+_, _*_, _≤_, _<_};
 ghost use lib.ListN.{length};
+ghost use Rattle.model.specs.Lengths as Lengths;
 ghost use Rattle.model.specs.declared.Hardware.{Hardware};
 ghost use Rattle.model.specs.Octets.{allZero, u16};
 ghost use Rattle.model.specs.Tables.{tableRules};
@@ -17,6 +18,8 @@ ghost use Rattle.checks.specs.Present.{blockAt, controllerOctetsOk};
 ghost use Rattle.checks.specs.Settings.{flagsOctetsOk};
 ghost use Rattle.checks.specs.Tables.{tableOctetsOk, tablesOctetsOk};
 use model::RadioSettings;
+use model::codes;
+use model::lengths;
 use rules::Decision;
 
 // Whether the n octets from a place on are zero. They nearly always are, so they are joined by or, with no test before the end.
@@ -90,17 +93,17 @@ fn open_ok(s: &[u8], at: usize, r: RadioSettings) -> bool
     if code == 0 {
         return octets::zero_part(s, at + 2, 3);
     }
-    if code == 6 {
+    if code == codes::SET_DISCOVERABLE {
         return waits(rules::decide_discoverable(r, &s[at + 2..at + 5]));
     }
     if octets::zero_part(s, at + 3, 2) {
-        if code == 5 {
+        if code == codes::SET_POWERED {
             return waits(rules::decide_powered(r, &s[at + 2..at + 3]));
         }
-        if code == 7 {
+        if code == codes::SET_CONNECTABLE {
             return waits(rules::decide_connectable(r, &s[at + 2..at + 3]));
         }
-        if code == 13 {
+        if code == codes::SET_LOW_ENERGY {
             return waits(rules::decide_low_energy(r, &s[at + 2..at + 3]));
         }
     }
@@ -122,11 +125,11 @@ fn flags_ok(s: &[u8], b: usize) -> bool
     requires { ⌜ b + 32 ≤ length (now s) ⌝ }
     ensures { λ r. ⌜ r ≡ flagsOctetsOk (now (s .entry)) b ⌝ }
 {
-    if s[b + 19] <= 1 {
-        if s[b + 20] <= 1 {
-            if s[b + 21] <= 1 {
-                if s[b + 22] <= 1 {
-                    return s[b + 23] <= 1;
+    if s[b + layout::places::POWERED] <= 1 {
+        if s[b + layout::places::CONNECTABLE] <= 1 {
+            if s[b + layout::places::DISCOVERABLE] <= 1 {
+                if s[b + layout::places::BONDABLE] <= 1 {
+                    return s[b + layout::places::LOW_ENERGY] <= 1;
                 }
             }
         }
@@ -136,7 +139,7 @@ fn flags_ok(s: &[u8], b: usize) -> bool
 
 // Whether name and short name of index i end in a zero.
 fn name_ok(s: &[u8], i: u64) -> bool
-    requires { ⌜ (length (now s) ≡ 16116) × (i < 4) ⌝ }
+    requires { ⌜ (length (now s) ≡ Lengths.state) × (i < 4) ⌝ }
     ensures { λ r. ⌜ r ≡ nameOk (controllerOf (now (s .entry)) i .host .name) ⌝ }
 {
     let at = layout::name_place(i);
@@ -148,7 +151,7 @@ fn name_ok(s: &[u8], i: u64) -> bool
 
 // Whether the block of index i, which has a controller, is well formed.
 fn controller_ok(s: &[u8], i: u64) -> bool
-    requires { ⌜ (length (now s) ≡ 16116) × (i < 4) ⌝ }
+    requires { ⌜ (length (now s) ≡ Lengths.state) × (i < 4) ⌝ }
     ensures { λ r. ⌜ r ≡ controllerOctetsOk (now (s .entry)) i ⌝ }
 {
     let b = block_place(i);
@@ -159,8 +162,8 @@ fn controller_ok(s: &[u8], i: u64) -> bool
         if rules::settings_fit(m) {
             if name_ok(s, i) {
                 if flags_ok(s, b) {
-                    if open_ok(s, b + 1, r) {
-                        return tables_ok(s, b + 292, f.supported);
+                    if open_ok(s, b + layout::places::OPEN_CODE, r) {
+                        return tables_ok(s, b + layout::places::TABLES, f.supported);
                     }
                 }
             }
@@ -171,20 +174,20 @@ fn controller_ok(s: &[u8], i: u64) -> bool
 
 // Whether block i is well formed: a controller's, or all zero.
 fn block_ok(s: &[u8], i: u64) -> bool
-    requires { ⌜ (length (now s) ≡ 16116) × (i < 4) ⌝ }
+    requires { ⌜ (length (now s) ≡ Lengths.state) × (i < 4) ⌝ }
     ensures { λ r. ⌜ r ≡ blockOk (blockAt (now (s .entry)) i) ⌝ }
 {
     if layout::present(s, i) {
         return controller_ok(s, i);
     }
-    blank(s, block_place(i), 4028)
+    blank(s, block_place(i), lengths::BLOCK)
 }
 
 // Whether lent octets are a well-formed state.
 pub fn well_formed(state: &[u8]) -> bool
     ensures { λ r. ⌜ r ≡ stateOk (now (state .entry)) ⌝ }
 {
-    if state.len() == 16116 {
+    if state.len() == lengths::STATE {
         if block_ok(state, 0) {
             if block_ok(state, 1) {
                 if block_ok(state, 2) {

@@ -1,22 +1,28 @@
 -- Demand 3 of every run of the exported functions: what a host reads of numbers and buffers is what the model answers, so a run is the model's list.
 -- Assumes nothing.
-use Prim.Native.Nat.{ℕ, _+_, _*_, _/_, _%_, _^_, _≤_, _<_}
+use Prim.Native.Nat.{ℕ, _+_, _*_, _^_, _≤_, _<_}
 use native.Mathlib.Omega.{arith}
-use mathlib.Core.Path.{_≡_, refl, sym, ap, _∙_}
+use mathlib.Core.Path.{_≡_, refl, sym, ap, subst, _∙_}
 use mathlib.Core.Bool.{Bool, true, false, _||_}
 use mathlib.Core.List.{List, [], _∷_, _++_, map}
 use lib.ListN.{length, drop, replicate, length-replicate}
 use lib.Seq.{take-append-seam}
 use lib.Dec.{eqb, ltb}
-use borrow.Author.Tests.{lt-ltb}
-use Rattle.model.specs.Octets.{Octets, bytes}
-use Rattle.model.specs.Hub.{Call, Result}
+use borrow.Author.Tests.{lt-ltb, ltb-true}
+use Rattle.model.specs.Octets.{Octets}
+use Rattle.model.specs.Lengths as Lengths
+use Rattle.model.specs.State.{PlainHub}
+use Rattle.model.specs.Image.{image}
+use Rattle.model.specs.Hub.{Call, Outcome, Result, call, callPlain, finished, keep, stateOf, within}
+use Rattle.model.specs.Hub as Hub
+use Rattle.model.specs.Layout.{decode, encode}
 use Rattle.model.specs.WellFormed.{callWide, callsWide}
-use Rattle.model.specs.Meanings.{hubClock, hubCommand, hubLoad, hubPlug, hubReport, hubSave, hubUnplug, meaning}
+use Rattle.model.specs.Meanings.{hubClock, hubCommand, hubLoad, hubPlug, hubReport, hubSave, hubUnplug, badState, laidOut, meaning, stateOk}
 use Rattle.model.specs.Written.{loadAnswer}
 use Rattle.model.specs.Demand3.{after, entry, trace}
 use Rattle.model.specs.Theorems.{answers-are-eight, count-fits, demand-3, load-writes-nothing}
-use Rattle.model.specs.Proof.Tests.{and-true, both, equal, no-way}
+use Rattle.model.specs.Proof.Tests.{and-true, both, either, equal, no-way}
+use Rattle.model.specs.Proof.Demand3.{state-back}
 use Rattle.hub.specs.Entries.{Returns}
 use Rattle.hub.specs.Runs.{CountsTrue, Demand3OfRuns, EveryListRuns, Run, Seen, Step, answerIn, countIn, ends, entryOf, names, octetsIn, step}
 use Rattle.hub.specs.Runs as Runs
@@ -111,3 +117,88 @@ demand-3-of-runs buffer image s end r xs b l z run =
     let a : hubLoad buffer image .answer ≡ 0 = taken-by (hubLoad buffer image .answer) r (l .number) (load-writes-nothing buffer image .0) z in
     let d = demand-3 buffer image (callsOf xs) b (k .wide) a in
     (k .counts, rw (k .seen, k .state, l .state) d)
+
+-- 5. Runs are there -----------------------------------------------------------------------------------------------------------------------------
+
+-- what a host would see of a call on a state, with a reply buffer that held b
+seenMade : Octets → Call → Octets → Seen
+seenMade s c b = record {
+  call = c;
+  returned = meaning s c .answer + 256 * length (meaning s c .octets);
+  reply = meaning s c .octets ++ drop (length (meaning s c .octets)) b;
+}
+
+-- that is what the contract of a function says
+returns-made : (o : Result Octets) (b : Octets) → Returns o (o .answer + 256 * length (o .octets)) b (o .octets ++ drop (length (o .octets)) b) (o .state)
+returns-made o b = record { number = refl; reply = refl; state = refl }
+
+-- a call on a state, and its step
+Made : Octets → Call → Type 0
+Made s c = (x : Seen) × (x .call ≡ c) × Step s (x .call) (x .returned) (x .reply) (meaning s c .state)
+
+-- what holds for the length of every buffer holds for every number
+by-room : (Q : ℕ → Type 0) (room : ℕ) → ((b : Octets) → Q (length b)) → Q room
+by-room Q room f =
+    let b : Octets = replicate room 0 in
+    let e : length b ≡ room = length-replicate room 0 in
+    subst Q e (f b)
+
+-- save leaves the plain hub as it was
+plain-same : (p : PlainHub) (room : ℕ) → stateOf p (within Lengths.largestImage room (finished (image p) p)) ≡ p
+unfolding within stateOf
+plain-same p room = either {A = Outcome} (λ o. stateOf p o ≡ p) (ltb room Lengths.largestImage) (λ _. refl) (λ _. refl)
+
+-- and so the state
+save-same : (s : Octets) (room : ℕ) → meaning s (Hub.save room) .state ≡ s
+unfolding meaning laidOut badState call keep callPlain
+save-same s room =
+    either {A = Result Octets} (λ r. r .state ≡ s) (stateOk s)
+    (λ t. ap (λ (p : PlainHub). encode (record { plain = p; openCommands = decode s .openCommands })) (plain-same (decode s .plain) room)
+    ∙ sym (state-back s t))
+    (λ _. refl)
+
+-- a save's step
+save-made : (s b : Octets) → Made s (Hub.save (length b))
+unfolding Made hubSave seenMade
+save-made s b =
+    rw (save-same s (length b)) (
+      seenMade s (Hub.save (length b)) b,
+      refl,
+      Runs.save {before = b}
+          (record { number = refl; reply = refl; state = sym (save-same s (length b)) }),
+    )
+
+-- the step of every call
+step-made : (s : Octets) (c : Call) → callWide c ≡ true → Made s c
+unfolding Made callWide hubCommand hubReport hubClock hubPlug hubUnplug seenMade
+step-made s (Hub.command room packet) w =
+    by-room (λ n. Made s (Hub.command n packet)) room
+    (λ b. (seenMade s (Hub.command (length b) packet) b, refl, Runs.command {before = b} w (returns-made (meaning s (Hub.command (length b) packet)) b)))
+step-made s (Hub.report room i status) w =
+    by-room (λ n. Made s (Hub.report n i status)) room
+    (λ b. (seenMade s (Hub.report (length b) i status) b, refl, Runs.report {before = b} (returns-made (meaning s (Hub.report (length b) i status)) b)))
+step-made s (Hub.clock room reading) w =
+    by-room (λ n. Made s (Hub.clock n reading)) room
+    (λ b. (
+      seenMade s (Hub.clock (length b) reading) b,
+      refl,
+      Runs.clock {before = b} (ltb-true reading (2 ^ 32) w)
+          (returns-made (meaning s (Hub.clock (length b) reading)) b),
+    ))
+step-made s (Hub.plug room i f) w =
+    by-room (λ n. Made s (Hub.plug n i f)) room
+    (λ b. (seenMade s (Hub.plug (length b) i f) b, refl, Runs.plug {before = b} w (returns-made (meaning s (Hub.plug (length b) i f)) b)))
+step-made s (Hub.unplug room i) w =
+    by-room (λ n. Made s (Hub.unplug n i)) room
+    (λ b. (seenMade s (Hub.unplug (length b) i) b, refl, Runs.unplug {before = b} (returns-made (meaning s (Hub.unplug (length b) i)) b)))
+step-made s (Hub.save room) w = by-room (λ n. Made s (Hub.save n)) room (λ b. save-made s b)
+
+-- EVERY LIST OF CALLS HAS A RUN, on any octets as state
+pub every-list-runs : EveryListRuns
+unfolding callsWide after Made
+every-list-runs s [] w = ([], refl, ends)
+every-list-runs s (c ∷ cs) w =
+    let h = and-true (callWide c) (callsWide cs) w in
+    let m = step-made s c (h .0) in
+    let r = every-list-runs (meaning s c .state) cs (h .1) in
+    (m .0 ∷ r .0, rw (m .1, r .1), step (m .2) (r .2))

@@ -24,7 +24,8 @@ use Rattle.model.specs.Tables.{ruleAt}
 use Rattle.model.specs.Proof.RoundTrip.{image-most}
 use Rattle.model.specs.Proof.Demand3.{state-back, state-well}
 use Rattle.model.specs.Proof.Tests.{and-true, equal}
-use Rattle.octets.specs.Parts.{part, placeAt, writeAt, length-part, length-writeAt, write-left, write-right, write-split}
+use Rattle.octets.specs.Parts.{part, placeAt, writeAt}
+use Rattle.octets.proofs.Parts.{length-part, length-writeAt, write-left, write-right, write-split}
 use Rattle.table.specs.Slots.{InUse, NextUsed, tableAt}
 use Rattle.table.proofs.Regions.{length-table, slot-room}
 use Rattle.table.proofs.Walk.{in-use-entries, next-entries}

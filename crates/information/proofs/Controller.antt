@@ -21,7 +21,8 @@ use Rattle.model.specs.Tables.{entries, tableRules, uuidRule}
 use Rattle.model.specs.Layout.{encode, decode}
 use Rattle.model.specs.Proof.Demand3.{state-back}
 use Rattle.model.specs.Tables.{ruleAt}
-use Rattle.octets.specs.Parts.{part, length-part, write-whole, writeAt}
+use Rattle.octets.specs.Parts.{part, writeAt}
+use Rattle.octets.proofs.Parts.{length-part, write-whole}
 use Rattle.table.specs.Slots.{joinedByOr, tableAt}
 use Rattle.layout.specs.Places.{Ready, controllerOf, placeOf, putController, tablePlace}
 use Rattle.layout.proofs.Reading.{name-at, present-slot}

@@ -19,7 +19,8 @@ use Rattle.model.specs.Hub.{finished, refused, byStatus, generalOut}
 use Rattle.model.specs.Layout.{decode, controllersIn}
 use Rattle.model.specs.Meanings.{stateOk}
 use Rattle.model.specs.Proof.Demand3.{state-back}
-use Rattle.octets.specs.Parts.{writeAt, write-split, write-right, write-front}
+use Rattle.octets.specs.Parts.{writeAt}
+use Rattle.octets.proofs.Parts.{write-split, write-right, write-front}
 use Rattle.layout.specs.Places.{presentAt}
 use Rattle.layout.proofs.Reading.{present-slot, absent-slot}
 use Rattle.replies.specs.Answers.{Gives}

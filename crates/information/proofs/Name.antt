@@ -86,7 +86,8 @@ module _ (s : Octets) (i : ℕ) (ps d d′ : Octets) (r : Answer) (g : Ready s i
   pub short-open : length ps ≡ 260 → getD ps 248 0 ≡ 0 → (getD ps 259 0 ≡ 0 → ⊥) → r ≡ Refused 9
       → d′ ≡ writeAt d 0 (commandStatus i 15 Statuses.invalidParameters) → Gives (immediateCommand s i 15 ps setLocalName) r d d′ s
   unfolding statusOf setLocalName
-  short-open l e f n w = immediate-status s i 15 ps setLocalName d d′ r g big (size-true ps l) shortNameNotEnded refl (act-short i (controllerOf s i) ps e f) n w
+  short-open l e f n w =
+      immediate-status s i 15 ps setLocalName d d′ r g big (size-true ps l) shortNameNotEnded refl (act-short i (controllerOf s i) ps e f) n w
 
   module _ (l : length ps ≡ 260) (e : getD ps 248 0 ≡ 0) (f : getD ps 259 0 ≡ 0) (place : ℕ) (p : place ≡ placeOf i 4) (b : Bool)
       (k : b ≡ same (part ps 0 260) (part s place 260)) (s′ : Octets)
@@ -108,7 +109,8 @@ module _ (s : Octets) (i : ℕ) (ps d d′ : Octets) (r : Answer) (g : Ready s i
         let m = length-complete i 15 0 ps 260 l in
         let o = length-event Events.localNameChanged i ps 260 l in
         let z : length (commandComplete i 15 0 ps ++ event Events.localNameChanged i ps) ≡ 535 = rw (length-append, m, o) in
-        immediate-done s i 15 ps setLocalName d d′ r g big (size-true ps l) s′ ps (event Events.localNameChanged i ps) (withName (controllerOf s i .host) ps) 535
+        immediate-done s i 15 ps setLocalName d d′ r g big (size-true ps l) s′ ps (event Events.localNameChanged i ps)
+        (withName (controllerOf s i .host) ps) 535
         (act-done i (controllerOf s i) ps false e f (same-name s i ps place b l p k ∙ t)) n z (lit≤ tt)
         (w ∙ rw w₁ (then d 0 (commandComplete i 15 0 ps) (event Events.localNameChanged i ps) 269 (rw m))) put
 

@@ -264,7 +264,8 @@ pub list-wrong : (s : Octets) (i code k at size : ℕ) (fits : Bool) (ps d d′ 
     → fits ≡ eqb (length ps) (at + 2 + size * u16 ps at) → fits ≡ false → r ≡ Refused 9 → d′ ≡ writeAt d 0 (commandStatus i code Statuses.invalidParameters)
     → Gives (immediateCommand s i code ps (loadKeys (keyList k))) r d d′ s
 unfolding loadKeys
-list-wrong s i code k at size fits ps d d′ r g big ea ez e f m w = immediate-length s i code ps (loadKeys (keyList k)) d d′ r g big (rw (ea, ez) (sym e ∙ f)) m w
+list-wrong s i code k at size fits ps d d′ r g big ea ez e f m w =
+    immediate-length s i code ps (loadKeys (keyList k)) d d′ r g big (rw (ea, ez) (sym e ∙ f)) m w
 
 -- the debug flag is 0 or 1
 debug-is : (v : ℕ) → leb v 1 ≡ passes ((refusedIf (ltb 1 v) debugFlagAbove1) ∷ [])

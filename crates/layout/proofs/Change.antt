@@ -20,7 +20,8 @@ use Rattle.model.specs.Proof.Demand3.{state-back, state-well}
 use Rattle.model.specs.Proof.Layout.{length-open}
 use Rattle.model.specs.Proof.Stays.{controller-ok}
 use Rattle.model.specs.Proof.Tests.{and-true}
-use Rattle.octets.specs.Parts.{join, lengths, part, write-whole, writeAt}
+use Rattle.octets.specs.Parts.{part, writeAt}
+use Rattle.octets.proofs.Parts.{join, lengths, write-whole}
 use Rattle.layout.specs.Places.{Ready, base, controllerOf, emptied, openAt, placeOf, putController, sizes}
 use Rattle.rules.specs.Effects.{withSettings}
 use Rattle.layout.proofs.Reading.{present-controller, present-slot}

@@ -16,7 +16,8 @@ use Rattle.model.specs.Tables.{blockedRule, deviceRule, identityKeyRule, linkKe
 use Rattle.model.specs.Layout.{block, blocks, decode, encode, hardwarePart, occupancy, openPart, region, settingsPart, slotOctets, slots}
 use Rattle.model.specs.Meanings.{stateOk}
 use Rattle.model.specs.Proof.Demand3.{state-back, state-well}
-use Rattle.octets.specs.Parts.{join, lengths, placeAt, write-split, write-whole, writeAt}
+use Rattle.octets.specs.Parts.{placeAt, writeAt}
+use Rattle.octets.proofs.Parts.{join, lengths, write-split, write-whole}
 use Rattle.layout.specs.Places.{base, hardwareHead, openAt, placeOf, presentAt, putController, sizes, withClock}
 use Rattle.layout.proofs.Reading.{absent-open, absent-slot}
 use Rattle.layout.proofs.Lens.{Shaped, join-block, piece-write, pieces, regionPieces, shaped, state-is, state-put, withBlock, withSlot}

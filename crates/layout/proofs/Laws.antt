@@ -15,7 +15,8 @@ use Rattle.model.specs.State.{namePart}
 use Rattle.model.specs.Hub.{withOpen}
 use Rattle.model.specs.Layout.{decode, encode, settingsPart}
 use Rattle.model.specs.Proof.Names.{length-used}
-use Rattle.octets.specs.Parts.{part, part-first, part-part, placeAt, write-split, writeAt}
+use Rattle.octets.specs.Parts.{part, placeAt, writeAt}
+use Rattle.octets.proofs.Parts.{part-first, part-part, write-split}
 use Rattle.layout.specs.Places.{Ready, base, controllerOf, placeOf, putController, settingsHead, sizes, tablePlace}
 use Rattle.rules.specs.Effects.{withSettings}
 use Rattle.layout.proofs.Change.{settings-changed}

@@ -22,7 +22,8 @@ use Rattle.model.specs.Proof.Layout.{length-block, length-open}
 use Rattle.model.specs.Proof.Parts.{controller-fit}
 use Rattle.model.specs.Proof.Stays.{plain-fit}
 use Rattle.model.specs.Proof.Tests.{and-true, equal, no-way}
-use Rattle.octets.specs.Parts.{join, join-read, join-write, length-writeAt, lengths, part, part-right, placeAt, write-right, writeAt, write-whole}
+use Rattle.octets.specs.Parts.{part, placeAt, writeAt}
+use Rattle.octets.proofs.Parts.{join, join-read, join-write, length-writeAt, lengths, part-right, write-right, write-whole}
 use Rattle.layout.specs.Places.{base, placeOf, sizes}
 use Rattle.model.specs.Proof.Keeps.{opens-length}
 

@@ -17,7 +17,8 @@ use Rattle.model.specs.WellFormed.{openOk}
 use Rattle.model.specs.Layout.{decode, encode, openBack, openPart, openWith, sizeOf}
 use Rattle.model.specs.Proof.Decode.{Started, started-by}
 use Rattle.model.specs.Proof.Tests.{and-true}
-use Rattle.octets.specs.Parts.{getD-part, part, part-part, placeAt, write-split, writeAt}
+use Rattle.octets.specs.Parts.{part, placeAt, writeAt}
+use Rattle.octets.proofs.Parts.{getD-part, part-part, write-split}
 use Rattle.layout.specs.Places.{Ready, base, controllerOf, openAt, placeOf, sizes}
 use Rattle.layout.proofs.Reading.{block-open, open-some, present-octet}
 use Rattle.layout.proofs.Change.{open-changed}

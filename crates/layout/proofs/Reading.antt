@@ -16,7 +16,8 @@ use Rattle.model.specs.Octets.{Octets, u16, u32}
 use Rattle.model.specs.State.{Controller, controllerAt, settingsOf}
 use Rattle.model.specs.Layout.{controllerBack, controllerIn, controllersIn, decode, openBack, openIn, opensIn}
 use Rattle.model.specs.Proof.Tests.{and-true}
-use Rattle.octets.specs.Parts.{part, getD-part, part-part, placeAt}
+use Rattle.octets.specs.Parts.{part, placeAt}
+use Rattle.octets.proofs.Parts.{getD-part, part-part}
 use Rattle.layout.specs.Places.{Ready, base, controllerOf, openAt, placeOf, presentAt, sizes}
 use Rattle.model.specs.Meanings.{stateOk}
 use Rattle.model.specs.Proof.Demand3.{state-long}

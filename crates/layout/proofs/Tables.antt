@@ -22,7 +22,8 @@ use Rattle.model.specs.Proof.Parts.{controller-fit, table-changed, table-ok}
 use Rattle.model.specs.Tables.{ruleAt}
 use Rattle.model.specs.Proof.Tables.{table-fit}
 use Rattle.model.specs.Proof.Tests.{and-true, equal, no-way}
-use Rattle.octets.specs.Parts.{drop-take, part, placeAt, writeAt, u32-part}
+use Rattle.octets.specs.Parts.{part, placeAt, writeAt}
+use Rattle.octets.proofs.Parts.{drop-take, u32-part}
 use Rattle.layout.specs.Places.{Ready, controllerOf, openAt, placeOf, putController, sizes, tablePlace}
 use Rattle.table.specs.Slots.{tableAt}
 use Rattle.table.proofs.Slots.{sized-ok}

@@ -47,7 +47,10 @@ fn reader_at<'a>(packet: &'a [u8], at: usize) -> Reader<'a>
 // The record of table k where the reader stands; the reader is left behind it.
 fn next<'s, 'a>(r: &'s mut Reader<'a>, k: usize) -> Key
     requires { ⌜ (k < 6) × (now r .at + ruleAt k .size ≤ length (now (now r .packet))) ⌝ }
-    ensures { λ key. ⌜ (key ≡ keyAt (now (now (r .entry) .packet)) (now (r .entry) .at) k) × (now (r .exit) .packet ≡ now (r .entry) .packet) × (now (r .exit) .at ≡ now (r .entry) .at + ruleAt k .size) ⌝ }
+    ensures { λ key. ⌜
+        (key ≡ keyAt (now (now (r .entry) .packet)) (now (r .entry) .at) k) × (now (r .exit) .packet ≡ now (r .entry) .packet)
+        × (now (r .exit) .at ≡ now (r .entry) .at + ruleAt k .size)
+        ⌝ }
 {
     let at = r.at;
     r.at = at + records::size_of(k);

@@ -99,7 +99,8 @@ unfolding writeAt
 one-is s at v = refl
 
 -- copying, what is left to do: an octet stored, and the rest from the next place on, is the rest from here on
-pub copy-turn : (s src : List ℕ) (at i : ℕ) → i < length src → writeAt (set s (at + i) (getD src i 0)) (at + (i + 1)) (drop (i + 1) src) ≡ writeAt s (at + i) (drop i src)
+pub copy-turn : (s src : List ℕ) (at i : ℕ) → i < length src
+    → writeAt (set s (at + i) (getD src i 0)) (at + (i + 1)) (drop (i + 1) src) ≡ writeAt s (at + i) (drop i src)
 unfolding writeAt
 copy-turn s src at i h =
     let f : at + (i + 1) ≡ suc (at + i) = omega arith in
@@ -115,7 +116,8 @@ unfolding writeAt
 copy-last s src at i h = let e : drop i src ≡ [] = drop-of-length-le src {i = i} h in rw e
 
 -- filling, what is left to do: a zero stored, and the rest from the next place on, is the rest from here on
-pub fill-turn : (s : List ℕ) (at n i : ℕ) → i < n → writeAt (set s (at + i) 0) (at + (i + 1)) (replicate (n - (i + 1)) 0) ≡ writeAt s (at + i) (replicate (n - i) 0)
+pub fill-turn : (s : List ℕ) (at n i : ℕ) → i < n
+    → writeAt (set s (at + i) 0) (at + (i + 1)) (replicate (n - (i + 1)) 0) ≡ writeAt s (at + i) (replicate (n - i) 0)
 unfolding writeAt
 fill-turn s at n i h =
     let e : n - i ≡ suc (n - (i + 1)) = omega arith in

@@ -18,7 +18,8 @@ use Rattle.model.specs.Hub.{commandOut, refusalForm, immediateAt, immediateDone
 use Rattle.model.specs.Layout.{encode, decode}
 use Rattle.model.specs.Meanings.{stateOk, laidOut}
 use Rattle.model.specs.Proof.Demand3.{state-back}
-use Rattle.octets.specs.Parts.{writeAt, write-front}
+use Rattle.octets.specs.Parts.{writeAt}
+use Rattle.octets.proofs.Parts.{write-front}
 use Rattle.layout.specs.Places.{Ready, controllerOf, openAt, putController}
 use Rattle.model.specs.Answers.{numberOf, countOf}
 use Rattle.replies.specs.Answers.{Gives}

@@ -15,7 +15,8 @@ use Rattle.model.specs.Tables.{any, chop, distinct, entries, every, ruleAt, tab
 use Rattle.model.specs.Tables.{blockedRule, deviceRule, identityKeyRule, linkKeyRule, longTermKeyRule, uuidRule}
 use Rattle.model.specs.Proof.Tables.{bytes-drop, bytes-take, byte-at, eqb-self, lt-true, same-eq, same-refl}
 use Rattle.model.specs.Proof.Tests.{and-true, both, equal}
-use Rattle.octets.specs.Parts.{part, drop-take, getD-part}
+use Rattle.octets.specs.Parts.{part}
+use Rattle.octets.proofs.Parts.{drop-take, getD-part}
 use Rattle.octets.specs.Numbers.{little}
 use Rattle.octets.proofs.Numbers.{little-one}
 use Rattle.model.specs.Layout.{slotsBack}

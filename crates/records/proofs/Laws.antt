@@ -17,8 +17,10 @@ use Rattle.model.specs.State.{bredrSupported, leSupported, staticRandom}
 use Rattle.model.specs.Reasons.{Check, firstOf, noReason, passes}
 use Rattle.model.specs.Tables.{TableRule, every, leAddressChecks, needsBredr, needsLe, needsNothing, recordOk, ruleAt, tableRules}
 use Rattle.model.specs.Tables.{blockedRule, deviceRule, identityKeyRule, linkKeyRule, longTermKeyRule, uuidRule}
-use Rattle.octets.specs.Parts.{part, length-part, getD-part}
-use Rattle.records.specs.Slots.{freeZero, recordsAt, used-slot, free-slot, no-more}
+use Rattle.octets.specs.Parts.{part}
+use Rattle.octets.proofs.Parts.{length-part, getD-part}
+use Rattle.records.specs.Slots.{freeZero, recordsAt}
+use Rattle.records.proofs.Slots.{used-slot, free-slot, no-more}
 
 -- what a comparison of two numbers says as a test
 pub ruleset tests = (eq-eqb, ne-eqb, le-leb, lt-leb, le-ltb, lt-ltb)
@@ -201,7 +203,8 @@ module _ (s : Octets) (at : ℕ) where
   link-key-is = rw (passes-cons, one-check, getD-part s at 25 6 (omega arith), getD-part s at 25 7 (omega arith), twice-not, not-ltb)
 
   -- an LE address: public, or random and then static (01, Commands, paragraph on loads)
-  pub le-address-is : (n : ℕ) → 7 ≤ n → passes (leAddressChecks (part s at n)) ≡ (eqb (getD s (at + 6) 0) 1 || eqb (getD s (at + 6) 0) 2) && not (eqb (getD s (at + 6) 0) 2 && not (leb 192 (getD s (at + 5) 0)))
+  pub le-address-is : (n : ℕ) → 7 ≤ n → passes (leAddressChecks (part s at n)) ≡ (eqb (getD s (at + 6) 0) 1 || eqb (getD s (at + 6) 0) 2)
+      && not (eqb (getD s (at + 6) 0) 2 && not (leb 192 (getD s (at + 5) 0)))
   unfolding leAddressChecks staticRandom octet
   le-address-is n h = rw (passes-cons, one-check, getD-part s at n 6 (omega arith), getD-part s at n 5 (omega arith), twice-not)
 
@@ -211,7 +214,8 @@ module _ (s : Octets) (at : ℕ) where
 
   -- a long term key: an LE address, a key type of at most 4, master 0 or 1, a key size of 7 to 16
   pub long-term-key-is : passes (longTermKeyRule .checks (part s at 36))
-      ≡ passes (leAddressChecks (part s at 7)) && (not (ltb 4 (getD s (at + 7) 0)) && (not (ltb 1 (getD s (at + 8) 0)) && (not (ltb (getD s (at + 9) 0) 7) && leb (getD s (at + 9) 0) 16)))
+      ≡ passes (leAddressChecks (part s at 7)) && (not (ltb 4 (getD s (at + 7) 0))
+      && (not (ltb 1 (getD s (at + 8) 0)) && (not (ltb (getD s (at + 9) 0) 7) && leb (getD s (at + 9) 0) 16)))
   unfolding longTermKeyRule octet
   long-term-key-is = rw (
     passes-append,
@@ -238,7 +242,8 @@ module _ (s : Octets) (at : ℕ) where
 
   -- a device: the same, with an action of 0 to 2, and with type 0 only action 1
   pub device-is : passes (deviceRule .checks (part s at 8))
-      ≡ not (allZero (part s at 6)) && (not (ltb 2 (getD s (at + 6) 0)) && (not (ltb 2 (getD s (at + 7) 0)) && not (eqb (getD s (at + 6) 0) 0 && not (eqb (getD s (at + 7) 0) 1))))
+      ≡ not (allZero (part s at 6)) && (not (ltb 2 (getD s (at + 6) 0))
+      && (not (ltb 2 (getD s (at + 7) 0)) && not (eqb (getD s (at + 6) 0) 0 && not (eqb (getD s (at + 7) 0) 1))))
   unfolding deviceRule octet
   device-is = rw (
     passes-cons,
@@ -307,7 +312,8 @@ module _ (u : TableRule) (s : Octets) (size : ℕ) (e : size ≡ u .size) (at n 
   every-used l b h p = sym (rw (used-slot s size at n w l b, record-is h, p))
 
   -- in use, and its record is not
-  pub every-fails : 0 < n → w % 2 ≡ 1 → at + size ≤ length s → passes (u .checks (part s at (u .size))) ≡ false → false ≡ every (recordOk u) (recordsAt s size at n w)
+  pub every-fails : 0 < n → w % 2 ≡ 1 → at + size ≤ length s → passes (u .checks (part s at (u .size))) ≡ false
+      → false ≡ every (recordOk u) (recordsAt s size at n w)
   unfolding every
   every-fails l b h p = sym (rw (used-slot s size at n w l b, record-is h, p))
 

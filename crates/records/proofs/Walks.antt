@@ -14,7 +14,8 @@ use Rattle.model.specs.Tables.{every, recordOk, ruleAt}
 use Rattle.model.specs.Proof.Tests.{and-off, both, no-way}
 use Rattle.octets.specs.Parts.{part}
 use Rattle.records.specs.declared.Identity.{Identity}
-use Rattle.records.specs.Slots.{freeZero, recordsAt, used-slot, free-slot, no-more}
+use Rattle.records.specs.Slots.{freeZero, recordsAt}
+use Rattle.records.proofs.Slots.{used-slot, free-slot, no-more}
 use Rattle.records.specs.Identities.{among, apart, behind, collected, identityOf, numbered, paired, sameIdentity}
 use Rattle.records.specs.Marks.{Checked, Doubled, markOf, slotsFine, withMark}
 use Rattle.records.proofs.Laws.{every-end, every-fails, every-free, every-used, free-end, free-fails, free-used, free-zero, room}

@@ -9,7 +9,7 @@ ghost use lib.ListN.{length};
 ghost use Rattle.model.specs.declared.Hardware.{Hardware};
 ghost use Rattle.model.specs.Octets.{allZero};
 ghost use Rattle.model.specs.Reasons.{passes};
-ghost use Rattle.model.specs.Tables as T;
+ghost use Rattle.model.specs.Tables as Tables;
 ghost use Rattle.model.specs.Tables.{ruleAt};
 ghost use Rattle.octets.specs.Parts.{part};
 ghost use Rattle.records.specs.Slots.{freeZero, recordsAt};
@@ -50,7 +50,7 @@ pub fn size_of(k: usize) -> usize
 // A UUID with its hint: the UUID is not zero.
 fn uuid_ok(s: &[u8], at: usize) -> bool
     requires { ⌜ at + 17 ≤ length (now s) ⌝ }
-    ensures { λ r. ⌜ r ≡ passes (T.uuidRule .checks (part (now (s .entry)) at 17)) ⌝ }
+    ensures { λ r. ⌜ r ≡ passes (Tables.uuidRule .checks (part (now (s .entry)) at 17)) ⌝ }
 {
     if octets::u64_at(s, at) == 0 {
         return octets::u64_at(s, at + 8) != 0;
@@ -61,7 +61,7 @@ fn uuid_ok(s: &[u8], at: usize) -> bool
 // A link key: a BR/EDR address, and a key type of at most 8.
 fn link_key_ok(s: &[u8], at: usize) -> bool
     requires { ⌜ at + 25 ≤ length (now s) ⌝ }
-    ensures { λ r. ⌜ r ≡ passes (T.linkKeyRule .checks (part (now (s .entry)) at 25)) ⌝ }
+    ensures { λ r. ⌜ r ≡ passes (Tables.linkKeyRule .checks (part (now (s .entry)) at 25)) ⌝ }
 {
     if s[at + 6] != 0 {
         return false;
@@ -72,7 +72,7 @@ fn link_key_ok(s: &[u8], at: usize) -> bool
 // An address of a long term or identity key: LE Public, or LE Random and then static, its sixth octet 0xC0 or more.
 fn le_address_ok(s: &[u8], at: usize) -> bool
     requires { ⌜ at + 7 ≤ length (now s) ⌝ }
-    ensures { λ r. ⌜ r ≡ passes (T.leAddressChecks (part (now (s .entry)) at 7)) ⌝ }
+    ensures { λ r. ⌜ r ≡ passes (Tables.leAddressChecks (part (now (s .entry)) at 7)) ⌝ }
 {
     if s[at + 6] == 1 {
         return true;
@@ -86,7 +86,7 @@ fn le_address_ok(s: &[u8], at: usize) -> bool
 // A long term key: an LE address, a key type of at most 4, Master as a flag, a key size from 7 to 16.
 fn long_term_key_ok(s: &[u8], at: usize) -> bool
     requires { ⌜ at + 36 ≤ length (now s) ⌝ }
-    ensures { λ r. ⌜ r ≡ passes (T.longTermKeyRule .checks (part (now (s .entry)) at 36)) ⌝ }
+    ensures { λ r. ⌜ r ≡ passes (Tables.longTermKeyRule .checks (part (now (s .entry)) at 36)) ⌝ }
 {
     if le_address_ok(s, at) {
         if 4 < s[at + 7] {
@@ -106,7 +106,7 @@ fn long_term_key_ok(s: &[u8], at: usize) -> bool
 // An identity resolving key: its address.
 fn identity_key_ok(s: &[u8], at: usize) -> bool
     requires { ⌜ at + 23 ≤ length (now s) ⌝ }
-    ensures { λ r. ⌜ r ≡ passes (T.identityKeyRule .checks (part (now (s .entry)) at 23)) ⌝ }
+    ensures { λ r. ⌜ r ≡ passes (Tables.identityKeyRule .checks (part (now (s .entry)) at 23)) ⌝ }
 {
     le_address_ok(s, at)
 }
@@ -125,7 +125,7 @@ fn address_zero(s: &[u8], at: usize) -> bool
 // A blocked device: any address but zero, of one of the three types.
 fn blocked_ok(s: &[u8], at: usize) -> bool
     requires { ⌜ at + 7 ≤ length (now s) ⌝ }
-    ensures { λ r. ⌜ r ≡ passes (T.blockedRule .checks (part (now (s .entry)) at 7)) ⌝ }
+    ensures { λ r. ⌜ r ≡ passes (Tables.blockedRule .checks (part (now (s .entry)) at 7)) ⌝ }
 {
     if address_zero(s, at) {
         return false;
@@ -136,7 +136,7 @@ fn blocked_ok(s: &[u8], at: usize) -> bool
 // A device: the same, with one of three actions; a BR/EDR device has no other than 1.
 fn device_ok(s: &[u8], at: usize) -> bool
     requires { ⌜ at + 8 ≤ length (now s) ⌝ }
-    ensures { λ r. ⌜ r ≡ passes (T.deviceRule .checks (part (now (s .entry)) at 8)) ⌝ }
+    ensures { λ r. ⌜ r ≡ passes (Tables.deviceRule .checks (part (now (s .entry)) at 8)) ⌝ }
 {
     if address_zero(s, at) {
         return false;
@@ -401,7 +401,7 @@ pub fn distinct_identities(low: &[u64; 32], high: &[u64; 32], n: usize) -> bool
 // Whether no two records among the n slots of table k from a place on have one identity.
 pub fn distinct(k: usize, s: &[u8], place: usize, n: usize, w: u64) -> bool
     requires { ⌜ (k < 6) × (n ≤ 32) × (place + ruleAt k .size * n ≤ length (now s)) ⌝ }
-    ensures { λ r. ⌜ r ≡ T.distinct (map (ruleAt k .key) (recordsAt (now (s .entry)) (ruleAt k .size) place n w)) ⌝ }
+    ensures { λ r. ⌜ r ≡ Tables.distinct (map (ruleAt k .key) (recordsAt (now (s .entry)) (ruleAt k .size) place n w)) ⌝ }
 {
     let mut low: [u64; 32] = [0; 32];
     let mut high: [u64; 32] = [0; 32];
@@ -414,7 +414,7 @@ pub fn distinct(k: usize, s: &[u8], place: usize, n: usize, w: u64) -> bool
 pub fn slots_fine(k: usize, s: &[u8], place: usize, n: usize, w: u64) -> bool
     requires { ⌜ (k < 6) × (n ≤ 32) × (place + ruleAt k .size * n ≤ length (now s)) ⌝ }
     ensures { λ r. ⌜ r ≡ freeZero (now (s .entry)) (ruleAt k .size) place n w
-        && T.recordsOk (ruleAt k) (recordsAt (now (s .entry)) (ruleAt k .size) place n w) ⌝ }
+        && Tables.recordsOk (ruleAt k) (recordsAt (now (s .entry)) (ruleAt k .size) place n w) ⌝ }
 {
     let mut marks = marks::no_marks();
     if table_slots_ok(k, s, place, n, w, &mut marks) {
@@ -429,7 +429,7 @@ pub fn slots_fine(k: usize, s: &[u8], place: usize, n: usize, w: u64) -> bool
 // Whether the n records of table k in a list from a place on keep the table's rule. The word is that of a list: no slot is free.
 pub fn keeps_rule(k: usize, s: &[u8], place: usize, n: usize, w: u64) -> bool
     requires { ⌜ (k < 6) × (n ≤ 32) × (place + ruleAt k .size * n ≤ length (now s)) × (w ≡ 2 ^ n - 1) ⌝ }
-    ensures { λ r. ⌜ r ≡ T.recordsOk (ruleAt k) (recordsAt (now (s .entry)) (ruleAt k .size) place n w) ⌝ }
+    ensures { λ r. ⌜ r ≡ Tables.recordsOk (ruleAt k) (recordsAt (now (s .entry)) (ruleAt k .size) place n w) ⌝ }
 {
     slots_fine(k, s, place, n, w)
 }

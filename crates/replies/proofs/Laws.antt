@@ -12,7 +12,8 @@ use borrow.Author.Tests.{eq-eqb, ne-eqb}
 use Rattle.model.specs.Events as Events
 use Rattle.model.specs.Octets.{Octets, le16, le32, event, commandComplete, commandStatus}
 use Rattle.model.specs.Hub.{Result}
-use Rattle.octets.specs.Parts.{writeAt, write-split, write-front}
+use Rattle.octets.specs.Parts.{writeAt}
+use Rattle.octets.proofs.Parts.{write-split, write-front}
 use Rattle.replies.specs.Frames.{eventHead, completeHead, changedEvent, settingsReply}
 use Rattle.model.specs.Answers.{numberOf, countOf}
 use Rattle.replies.specs.Answers.{Gives}

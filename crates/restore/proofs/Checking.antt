@@ -19,8 +19,10 @@ use Rattle.model.specs.Tables.{TableRule, chop, empty, loaded, recordsOk, suppo
 use Rattle.model.specs.Tables.{identityKeyRule, blockedRule, deviceRule}
 use Rattle.model.specs.Image.{Parsed, controllerThen, flagsOk, nameOk, parseController, parseRadio, parseTables, radioOk, tableThen}
 use Rattle.model.specs.Tables.{ruleAt}
-use Rattle.records.specs.Slots.{recordsAt, list-records}
-use Rattle.octets.specs.Parts.{part, getD-part}
+use Rattle.records.specs.Slots.{recordsAt}
+use Rattle.records.proofs.Slots.{list-records}
+use Rattle.octets.specs.Parts.{part}
+use Rattle.octets.proofs.Parts.{getD-part}
 use Rattle.restore.proofs.Filling.{rule-next}
 use Rattle.restore.specs.Filling.{imageSettings}
 use Rattle.restore.specs.Checking.{behindOf, endAt, tablesFrom, fixedOk}

@@ -19,7 +19,8 @@ use Rattle.model.specs.State.{Table}
 use Rattle.model.specs.Tables.{begins, chop, entries, freed, loaded, free}
 use Rattle.model.specs.Layout.{region}
 use Rattle.model.specs.Proof.Region.{Sized}
-use Rattle.octets.specs.Parts.{part, writeAt, getD-part, length-writeAt}
+use Rattle.octets.specs.Parts.{part, writeAt}
+use Rattle.octets.proofs.Parts.{getD-part, length-writeAt}
 use Rattle.table.specs.Slots.{Canonical, InUse, NextUsed, firstAt, joinedByOr, tableAt}
 use Rattle.table.proofs.Slots.{freed-first, freed-none, entries-first, sized-none}
 use Rattle.table.proofs.Regions.{free-at, store-changed, release-changed, load-changed, length-table, length-region, canonical-write}

@@ -20,7 +20,8 @@ use Rattle.model.specs.Layout.{occupancy, slotOctets, slots, region, slotsBack,
 use Rattle.model.specs.Proof.Tests.{equal, either}
 use Rattle.model.specs.Proof.Region.{Sized, slot-write, occupancy-ones, occupancy-lt, occupancy-free}
 use Rattle.model.specs.Proof.Tables.{length-chop}
-use Rattle.octets.specs.Parts.{part, writeAt, length-part, length-writeAt, write-split, write-left, write-right, write-whole}
+use Rattle.octets.specs.Parts.{part, writeAt}
+use Rattle.octets.proofs.Parts.{length-part, length-writeAt, write-split, write-left, write-right, write-whole}
 use Rattle.table.specs.Slots.{Canonical, tableAt}
 use Rattle.model.specs.Proof.Decode.{slots-back}
 use Rattle.model.specs.Proof.Room.{length-le32}

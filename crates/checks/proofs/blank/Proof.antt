@@ -34,10 +34,15 @@ loop-less : tie.Need-loop-less Inv-loop μ-loop
 loop-less c = search needs
 
 loop-again : tie.Need-loop-again Inv-loop μ-loop
-loop-again c = (search needs, blank-turn (c .before .before .before .args .s .now) (c .before .before .before .args .at) (c .before .before .before .args .n) (c .before .before .loop .i) (c .before .before .loop .joined) (search needs) (search needs) ∙ c .before .before .loop .inv .1)
+loop-again c = (
+  search needs,
+  blank-turn (c .before .before .before .args .s .now) (c .before .before .before .args .at) (c .before .before .before .args .n)
+      (c .before .before .loop .i) (c .before .before .loop .joined) (search needs) (search needs) ∙ c .before .before .loop .inv .1,
+)
 
 returns : tie.Need-returns Inv-loop μ-loop
-returns c = blank-last (now (c .before .before .args .s)) (c .before .before .args .at) _ _ (c .before .loop .joined) (c .loop-test .left) ∙ c .before .loop .inv .1
+returns c =
+    blank-last (now (c .before .before .args .s)) (c .before .before .args .at) _ _ (c .before .loop .joined) (c .loop-test .left) ∙ c .before .loop .inv .1
 
 pub blank-spec : {M : Type 1} → statement M
 blank-spec =

@@ -37,22 +37,128 @@ tables-ok-requires : tie.Need-tables-ok-requires
 tables-ok-requires c κs = search needs
 
 returns : tie.Need-returns
-returns c = rw (fine-by (now (c .before .before .before .before .before .before .before .before .before .before .before .before .before .before .before .before .args .s)) (c .before .before .before .before .before .before .before .before .before .before .before .before .before .before .before .before .args .i) (c .before .before .before .before .before .before .before .before .before .before .before .before .before .before .block-place .result) (c .before .before .before .before .before .before .before .before .before .before .before .before .before .settings-at .result) (c .before .before .before .before .before .before .before .before .before .before .before .before .before .before .block-place .ensures) (c .before .before .before .before .before .before .before .before .before .before .before .before .before .settings-at .ensures), ← c .before .before .before .before .before .before .before .before .before .before .radio-ok .ensures, c .before .before .before .before .before .before .before .before .before .if1 .taken, ← c .before .before .before .before .before .before .before .before .settings-fit .ensures, c .before .before .before .before .before .before .before .if2 .taken, ← c .before .before .before .before .before .before .name-ok .ensures, c .before .before .before .before .before .if3 .taken, ← c .before .before .before .before .flags-ok .ensures, c .before .before .before .if4 .taken, ← c .before .before .open-ok .ensures, c .before .if5 .taken) (c .tables-ok .ensures _ refl)
+returns c =
+    rw (
+      fine-by
+          (now (c .before .before .before .before .before .before .before .before .before .before .before .before .before .before .before .before .args .s))
+          (c .before .before .before .before .before .before .before .before .before .before .before .before .before .before .before .before .args .i)
+          (c .before .before .before .before .before .before .before .before .before .before .before .before .before .before .block-place .result)
+          (c .before .before .before .before .before .before .before .before .before .before .before .before .before .settings-at .result)
+          (c .before .before .before .before .before .before .before .before .before .before .before .before .before .before .block-place .ensures)
+          (c .before .before .before .before .before .before .before .before .before .before .before .before .before .settings-at .ensures),
+      ←
+          c .before .before .before .before .before .before .before .before .before .before .radio-ok .ensures,
+      c .before .before .before .before .before
+          .before .before .before .before .if1 .taken,
+      ←
+          c .before .before .before .before .before .before .before .before .settings-fit .ensures,
+      c .before .before .before .before .before .before
+          .before .if2 .taken,
+      ←
+          c .before .before .before .before .before .before .name-ok .ensures,
+      c .before .before .before .before .before .if3 .taken,
+      ←
+          c .before .before .before .before .flags-ok .ensures,
+      c .before .before .before .if4 .taken,
+      ←
+          c .before .before .open-ok .ensures,
+      c .before .if5 .taken,
+    ) (c .tables-ok .ensures _ refl)
 
 returns-2 : tie.Need-returns-2
-returns-2 c = rw (fine-by (now (c .before .before .before .before .before .before .before .before .before .before .before .before .before .before .before .args .s)) (c .before .before .before .before .before .before .before .before .before .before .before .before .before .before .before .args .i) (c .before .before .before .before .before .before .before .before .before .before .before .before .before .block-place .result) (c .before .before .before .before .before .before .before .before .before .before .before .before .settings-at .result) (c .before .before .before .before .before .before .before .before .before .before .before .before .before .block-place .ensures) (c .before .before .before .before .before .before .before .before .before .before .before .before .settings-at .ensures), ← c .before .before .before .before .before .before .before .before .before .radio-ok .ensures, c .before .before .before .before .before .before .before .before .if1 .taken, ← c .before .before .before .before .before .before .before .settings-fit .ensures, c .before .before .before .before .before .before .if2 .taken, ← c .before .before .before .before .before .name-ok .ensures, c .before .before .before .before .if3 .taken, ← c .before .before .before .flags-ok .ensures, c .before .before .if4 .taken, ← c .before .open-ok .ensures, c .if5 .left)
+returns-2 c =
+    rw (
+      fine-by
+          (now (c .before .before .before .before .before .before .before .before .before .before .before .before .before .before .before .args .s))
+          (c .before .before .before .before .before .before .before .before .before .before .before .before .before .before .before .args .i)
+          (c .before .before .before .before .before .before .before .before .before .before .before .before .before .block-place .result)
+          (c .before .before .before .before .before .before .before .before .before .before .before .before .settings-at .result)
+          (c .before .before .before .before .before .before .before .before .before .before .before .before .before .block-place .ensures)
+          (c .before .before .before .before .before .before .before .before .before .before .before .before .settings-at .ensures),
+      ←
+          c .before .before .before .before .before .before .before .before .before .radio-ok .ensures,
+      c .before .before .before .before .before .before
+          .before .before .if1 .taken,
+      ←
+          c .before .before .before .before .before .before .before .settings-fit .ensures,
+      c .before .before .before .before .before .before .if2 .taken,
+      ←
+          c .before .before .before .before .before .name-ok .ensures,
+      c .before .before .before .before .if3 .taken,
+      ←
+          c .before .before .before .flags-ok .ensures,
+      c .before .before .if4 .taken,
+      ← c .before .open-ok .ensures,
+      c .if5 .left,
+    )
 
 returns-3 : tie.Need-returns-3
-returns-3 c = rw (fine-by (now (c .before .before .before .before .before .before .before .before .before .before .before .before .before .args .s)) (c .before .before .before .before .before .before .before .before .before .before .before .before .before .args .i) (c .before .before .before .before .before .before .before .before .before .before .before .block-place .result) (c .before .before .before .before .before .before .before .before .before .before .settings-at .result) (c .before .before .before .before .before .before .before .before .before .before .before .block-place .ensures) (c .before .before .before .before .before .before .before .before .before .before .settings-at .ensures), ← c .before .before .before .before .before .before .before .radio-ok .ensures, c .before .before .before .before .before .before .if1 .taken, ← c .before .before .before .before .before .settings-fit .ensures, c .before .before .before .before .if2 .taken, ← c .before .before .before .name-ok .ensures, c .before .before .if3 .taken, ← c .before .flags-ok .ensures, c .if4 .left)
+returns-3 c =
+    rw (
+      fine-by (now (c .before .before .before .before .before .before .before .before .before .before .before .before .before .args .s))
+          (c .before .before .before .before .before .before .before .before .before .before .before .before .before .args .i)
+          (c .before .before .before .before .before .before .before .before .before .before .before .block-place .result)
+          (c .before .before .before .before .before .before .before .before .before .before .settings-at .result)
+          (c .before .before .before .before .before .before .before .before .before .before .before .block-place .ensures)
+          (c .before .before .before .before .before .before .before .before .before .before .settings-at .ensures),
+      ←
+          c .before .before .before .before .before .before .before .radio-ok .ensures,
+      c .before .before .before .before .before .before .if1 .taken,
+      ←
+          c .before .before .before .before .before .settings-fit .ensures,
+      c .before .before .before .before .if2 .taken,
+      ←
+          c .before .before .before .name-ok .ensures,
+      c .before .before .if3 .taken,
+      ← c .before .flags-ok .ensures,
+      c .if4 .left,
+    )
 
 returns-4 : tie.Need-returns-4
-returns-4 c = rw (fine-by (now (c .before .before .before .before .before .before .before .before .before .before .before .args .s)) (c .before .before .before .before .before .before .before .before .before .before .before .args .i) (c .before .before .before .before .before .before .before .before .before .block-place .result) (c .before .before .before .before .before .before .before .before .settings-at .result) (c .before .before .before .before .before .before .before .before .before .block-place .ensures) (c .before .before .before .before .before .before .before .before .settings-at .ensures), ← c .before .before .before .before .before .radio-ok .ensures, c .before .before .before .before .if1 .taken, ← c .before .before .before .settings-fit .ensures, c .before .before .if2 .taken, ← c .before .name-ok .ensures, c .if3 .left)
+returns-4 c =
+    rw (
+      fine-by (now (c .before .before .before .before .before .before .before .before .before .before .before .args .s))
+          (c .before .before .before .before .before .before .before .before .before .before .before .args .i)
+          (c .before .before .before .before .before .before .before .before .before .block-place .result)
+          (c .before .before .before .before .before .before .before .before .settings-at .result)
+          (c .before .before .before .before .before .before .before .before .before .block-place .ensures)
+          (c .before .before .before .before .before .before .before .before .settings-at .ensures),
+      ←
+          c .before .before .before .before .before .radio-ok .ensures,
+      c .before .before .before .before .if1 .taken,
+      ←
+          c .before .before .before .settings-fit .ensures,
+      c .before .before .if2 .taken,
+      ← c .before .name-ok .ensures,
+      c .if3 .left,
+    )
 
 returns-5 : tie.Need-returns-5
-returns-5 c = rw (fine-by (now (c .before .before .before .before .before .before .before .before .before .args .s)) (c .before .before .before .before .before .before .before .before .before .args .i) (c .before .before .before .before .before .before .before .block-place .result) (c .before .before .before .before .before .before .settings-at .result) (c .before .before .before .before .before .before .before .block-place .ensures) (c .before .before .before .before .before .before .settings-at .ensures), ← c .before .before .before .radio-ok .ensures, c .before .before .if1 .taken, ← c .before .settings-fit .ensures, c .if2 .left)
+returns-5 c =
+    rw (
+      fine-by (now (c .before .before .before .before .before .before .before .before .before .args .s))
+          (c .before .before .before .before .before .before .before .before .before .args .i)
+          (c .before .before .before .before .before .before .before .block-place .result)
+          (c .before .before .before .before .before .before .settings-at .result)
+          (c .before .before .before .before .before .before .before .block-place .ensures)
+          (c .before .before .before .before .before .before .settings-at .ensures),
+      ←
+          c .before .before .before .radio-ok .ensures,
+      c .before .before .if1 .taken,
+      ← c .before .settings-fit .ensures,
+      c .if2 .left,
+    )
 
 returns-6 : tie.Need-returns-6
-returns-6 c = rw (fine-by (now (c .before .before .before .before .before .before .before .args .s)) (c .before .before .before .before .before .before .before .args .i) (c .before .before .before .before .before .block-place .result) (c .before .before .before .before .settings-at .result) (c .before .before .before .before .before .block-place .ensures) (c .before .before .before .before .settings-at .ensures), ← c .before .radio-ok .ensures, c .if1 .left)
+returns-6 c =
+    rw (
+      fine-by (now (c .before .before .before .before .before .before .before .args .s))
+          (c .before .before .before .before .before .before .before .args .i) (c .before .before .before .before .before .block-place .result)
+          (c .before .before .before .before .settings-at .result) (c .before .before .before .before .before .block-place .ensures)
+          (c .before .before .before .before .settings-at .ensures),
+      ← c .before .radio-ok .ensures,
+      c .if1 .left,
+    )
 
 pub controller-ok-spec : {M : Type 1} → statement M
 controller-ok-spec =

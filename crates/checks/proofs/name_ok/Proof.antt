@@ -5,7 +5,7 @@ use Rattle.checks.proofs.Laws.{tests, name-is}
 use borrow.Author.Needs.{needs}
 use Rattle.checks.proofs.name_ok.Statement.{statement}
 use Rattle.checks.proofs.name_ok.Tie as tie
-use Rattle.checks.specs.Present.{place-name}
+use Rattle.checks.proofs.Present.{place-name}
 
 name-place-requires : tie.Need-name-place-requires
 name-place-requires c κs = search needs

@@ -16,7 +16,9 @@ zero-part-requires : tie.Need-zero-part-requires
 zero-part-requires c κs = search needs
 
 returns : tie.Need-returns
-returns c = c .zero-part .ensures ∙ opens-none _ (now (c .before .before .before .before .args .s)) (c .before .before .before .before .args .at) _ (c .before .before .u16-at .ensures .0) (c .before .if1 .taken)
+returns c =
+    c .zero-part .ensures ∙ opens-none _ (now (c .before .before .before .before .args .s)) (c .before .before .before .before .args .at) _
+    (c .before .before .u16-at .ensures .0) (c .before .if1 .taken)
 
 add-decide-discoverable : tie.Need-add-decide-discoverable
 add-decide-discoverable c = search needs
@@ -40,7 +42,10 @@ waits-requires : tie.Need-waits-requires
 waits-requires c κs = search needs
 
 returns-2 : tie.Need-returns-2
-returns-2 c = c .waits .ensures ∙ opens-discoverable _ (now (c .before .before .before .before .before .before .before .args .s)) (c .before .before .before .before .before .before .before .args .at) _ (c .before .before .before .before .before .u16-at .ensures .0) (c .before .before .before .before .if1 .left) (search needs) (c .before .before .before .if2 .taken) _ (c .before .decide-discoverable .ensures)
+returns-2 c =
+    c .waits .ensures ∙ opens-discoverable _ (now (c .before .before .before .before .before .before .before .args .s))
+    (c .before .before .before .before .before .before .before .args .at) _ (c .before .before .before .before .before .u16-at .ensures .0)
+    (c .before .before .before .before .if1 .left) (search needs) (c .before .before .before .if2 .taken) _ (c .before .decide-discoverable .ensures)
 
 add-zero-part-2 : tie.Need-add-zero-part-2
 add-zero-part-2 c = search needs
@@ -70,7 +75,13 @@ waits-requires-2 : tie.Need-waits-requires-2
 waits-requires-2 c κs = search needs
 
 returns-3 : tie.Need-returns-3
-returns-3 c = c .waits2 .ensures ∙ opens-powered _ (now (c .before .before .before .before .before .before .before .before .before .before .args .s)) (c .before .before .before .before .before .before .before .before .before .before .args .at) _ (c .before .before .before .before .before .before .before .before .u16-at .ensures .0) (c .before .before .before .before .before .before .before .if1 .left) (search needs) (sym (c .before .before .before .before .before .zero-part2 .ensures) ∙ c .before .before .before .before .if3 .taken) (c .before .before .before .if4 .taken) _ (c .before .decide-powered .ensures)
+returns-3 c =
+    c .waits2 .ensures ∙ opens-powered _ (now (c .before .before .before .before .before .before .before .before .before .before .args .s))
+    (c .before .before .before .before .before .before .before .before .before .before .args .at) _
+    (c .before .before .before .before .before .before .before .before .u16-at .ensures .0)
+    (c .before .before .before .before .before .before .before .if1 .left) (search needs)
+    (sym (c .before .before .before .before .before .zero-part2 .ensures) ∙ c .before .before .before .before .if3 .taken)
+    (c .before .before .before .if4 .taken) _ (c .before .decide-powered .ensures)
 
 add-decide-connectable : tie.Need-add-decide-connectable
 add-decide-connectable c = search needs
@@ -94,7 +105,14 @@ waits-requires-3 : tie.Need-waits-requires-3
 waits-requires-3 c κs = search needs
 
 returns-4 : tie.Need-returns-4
-returns-4 c = c .waits3 .ensures ∙ opens-connectable _ (now (c .before .before .before .before .before .before .before .before .before .before .before .args .s)) (c .before .before .before .before .before .before .before .before .before .before .before .args .at) _ (c .before .before .before .before .before .before .before .before .before .u16-at .ensures .0) (c .before .before .before .before .before .before .before .before .if1 .left) (search needs) (sym (c .before .before .before .before .before .before .zero-part2 .ensures) ∙ c .before .before .before .before .before .if3 .taken) (c .before .before .before .if5 .taken) _ (c .before .decide-connectable .ensures)
+returns-4 c =
+    c .waits3 .ensures ∙ opens-connectable _ (now
+    (c .before .before .before .before .before .before .before .before .before .before .before .args .s))
+    (c .before .before .before .before .before .before .before .before .before .before .before .args .at) _
+    (c .before .before .before .before .before .before .before .before .before .u16-at .ensures .0)
+    (c .before .before .before .before .before .before .before .before .if1 .left) (search needs)
+    (sym (c .before .before .before .before .before .before .zero-part2 .ensures) ∙ c .before .before .before .before .before .if3 .taken)
+    (c .before .before .before .if5 .taken) _ (c .before .decide-connectable .ensures)
 
 add-decide-low-energy : tie.Need-add-decide-low-energy
 add-decide-low-energy c = search needs
@@ -118,13 +136,27 @@ waits-requires-4 : tie.Need-waits-requires-4
 waits-requires-4 c κs = search needs
 
 returns-5 : tie.Need-returns-5
-returns-5 c = c .waits4 .ensures ∙ opens-low-energy _ (now (c .before .before .before .before .before .before .before .before .before .before .before .before .args .s)) (c .before .before .before .before .before .before .before .before .before .before .before .before .args .at) _ (c .before .before .before .before .before .before .before .before .before .before .u16-at .ensures .0) (c .before .before .before .before .before .before .before .before .before .if1 .left) (search needs) (sym (c .before .before .before .before .before .before .before .zero-part2 .ensures) ∙ c .before .before .before .before .before .before .if3 .taken) (c .before .before .before .if6 .taken) _ (c .before .decide-low-energy .ensures)
+returns-5 c =
+    c .waits4 .ensures ∙ opens-low-energy _ (now
+    (c .before .before .before .before .before .before .before .before .before .before .before .before .args .s))
+    (c .before .before .before .before .before .before .before .before .before .before .before .before .args .at) _
+    (c .before .before .before .before .before .before .before .before .before .before .u16-at .ensures .0)
+    (c .before .before .before .before .before .before .before .before .before .if1 .left) (search needs)
+    (sym (c .before .before .before .before .before .before .before .zero-part2 .ensures)
+    ∙ c .before .before .before .before .before .before .if3 .taken) (c .before .before .before .if6 .taken) _ (c .before .decide-low-energy .ensures)
 
 returns-6 : tie.Need-returns-6
-returns-6 c = opens-other _ (now (c .before .before .before .before .before .before .before .before .before .args .s)) (c .before .before .before .before .before .before .before .before .before .args .at) _ (c .before .before .before .before .before .before .before .u16-at .ensures .0) (c .before .before .before .before .before .before .if1 .left) (search needs) (c .before .before .before .before .before .if2 .left) (c .before .before .if4 .left) (c .before .if5 .left) (c .if6 .left)
+returns-6 c =
+    opens-other _ (now (c .before .before .before .before .before .before .before .before .before .args .s))
+    (c .before .before .before .before .before .before .before .before .before .args .at) _
+    (c .before .before .before .before .before .before .before .u16-at .ensures .0) (c .before .before .before .before .before .before .if1 .left)
+    (search needs) (c .before .before .before .before .before .if2 .left) (c .before .before .if4 .left) (c .before .if5 .left) (c .if6 .left)
 
 returns-7 : tie.Need-returns-7
-returns-7 c = opens-more _ (now (c .before .before .before .before .before .before .args .s)) (c .before .before .before .before .before .before .args .at) _ (c .before .before .before .before .u16-at .ensures .0) (c .before .before .before .if1 .left) (search needs) (c .before .before .if2 .left) (sym (c .before .zero-part2 .ensures) ∙ c .if3 .left)
+returns-7 c =
+    opens-more _ (now (c .before .before .before .before .before .before .args .s)) (c .before .before .before .before .before .before .args .at) _
+    (c .before .before .before .before .u16-at .ensures .0) (c .before .before .before .if1 .left) (search needs) (c .before .before .if2 .left)
+    (sym (c .before .zero-part2 .ensures) ∙ c .if3 .left)
 
 pub open-ok-spec : {M : Type 1} → statement M
 open-ok-spec =

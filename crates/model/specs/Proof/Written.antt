@@ -26,7 +26,8 @@ use Rattle.model.specs.Hub.{reportOut, save, stepOf, underWay, unlessBus
 use Rattle.model.specs.Image.{image, load}
 use Rattle.model.specs.Layout.{decode}
 use Rattle.model.specs.Meanings.{badState, hubLoad, laidOut, loadMeaning, loadedInto, meaning, stateOk}
-use Rattle.model.specs.Written.{OneReply, Written, addressCommand, busy, busyCommand, byCommandComplete, byCommandStatus, hasArgument, loadAnswer, ofCommand}
+use Rattle.model.specs.Written.{OneReply, Written, addressCommand, busy, busyCommand, byCommandComplete, byCommandStatus, hasArgument}
+use Rattle.model.specs.Written.{loadAnswer, ofCommand}
 use Rattle.model.specs.Written.{UpToLength, noController, unknownCode, upToLength, wrongIndex, wrongLength}
 use Rattle.model.specs.Written as WrittenCase
 use Rattle.model.specs.Proof.Tests.{and-true, either, equal, no-way, not-true}
@@ -258,7 +259,8 @@ unfolding answerOf octetsOf
 bad-written c g = WrittenCase.badArgument g
 
 -- a report
-report-written : (c : Call) (h : Hub) (i s : ℕ) (x : Option OpenCommand) → hasArgument c ≡ true → Written c (reportOut h i s x .answer) (reportOut h i s x .octets)
+report-written : (c : Call) (h : Hub) (i s : ℕ) (x : Option OpenCommand) → hasArgument c ≡ true
+    → Written c (reportOut h i s x .answer) (reportOut h i s x .octets)
 unfolding reportOut keep finish
 report-written c h i s none g = bad-written c g
 report-written c h i s (some o) g =

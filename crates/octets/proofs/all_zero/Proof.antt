@@ -47,7 +47,9 @@ loop-less c = search needs
 loop-again : tie.Need-loop-again Inv-loop μ-loop
 loop-again c = (search needs, more c)
   where
-    more : (c : lts.Else1 reads.Pre reads.Post Inv-loop μ-loop) → allZero (drop (c .before .before .before .loop .i + 1) (c .before .before .before .before .args .a .now)) ≡ allZero (c .before .before .before .before .args .a .now)
+    more : (c : lts.Else1 reads.Pre reads.Post Inv-loop μ-loop)
+        → allZero (drop (c .before .before .before .loop .i + 1) (c .before .before .before .before .args .a .now)) ≡ allZero
+        (c .before .before .before .before .args .a .now)
     more c =
         let a = c .before .before .before .before .args .a .now in
         let i = c .before .before .before .loop .i in

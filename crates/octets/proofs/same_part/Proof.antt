@@ -31,7 +31,9 @@ shared-slice-read-if1-2 : tie.Need-shared-slice-read-if1-2 Inv-loop μ-loop
 shared-slice-read-if1-2 c = search needs
 
 returns : tie.Need-returns Inv-loop μ-loop
-returns c = same-differs _ _ _ _ _ (c .before .before .before .before .loop .k) (search needs) (search needs) (search needs) (c .if1 .taken) ∙ c .before .before .before .before .loop .inv .1
+returns c =
+    same-differs _ _ _ _ _ (c .before .before .before .before .loop .k) (search needs) (search needs) (search needs) (c .if1 .taken)
+    ∙ c .before .before .before .before .loop .inv .1
 
 add-k : tie.Need-add-k Inv-loop μ-loop
 add-k c = search needs
@@ -40,7 +42,8 @@ loop-less : tie.Need-loop-less Inv-loop μ-loop
 loop-less c = search needs
 
 loop-again : tie.Need-loop-again Inv-loop μ-loop
-loop-again c = (search needs, same-turn _ _ _ _ _ _ (search needs) (search needs) (search needs) (c .if1 .left) ∙ c .before .before .before .before .loop .inv .1)
+loop-again c =
+    (search needs, same-turn _ _ _ _ _ _ (search needs) (search needs) (search needs) (c .if1 .left) ∙ c .before .before .before .before .loop .inv .1)
 
 returns-2 : tie.Need-returns-2 Inv-loop μ-loop
 returns-2 c = same-last _ _ _ _ _ _ (c .loop-test .left) ∙ c .before .loop .inv .1

@@ -27,7 +27,8 @@ shared-slice-read-if3 : tie.Need-shared-slice-read-if3
 shared-slice-read-if3 c = search needs
 
 returns-3 : tie.Need-returns-3
-returns-3 c = rw (device-is _ _, ← c .before .before .before .before .before .address-zero .ensures, c .before .before .before .before .if1 .left) (search tests)
+returns-3 c =
+    rw (device-is _ _, ← c .before .before .before .before .before .address-zero .ensures, c .before .before .before .before .if1 .left) (search tests)
 
 add-if4 : tie.Need-add-if4
 add-if4 c = search needs
@@ -42,10 +43,29 @@ shared-slice-read-result : tie.Need-shared-slice-read-result
 shared-slice-read-result c = search needs
 
 returns-4 : tie.Need-returns-4
-returns-4 c = rw (device-is _ _, ← c .before .before .before .before .before .before .before .before .address-zero .ensures, c .before .before .before .before .before .before .before .if1 .left, le-ltb _ _ (c .before .before .before .before .before .if2 .left), le-ltb _ _ (c .before .before .before .if3 .left), eq-eqb _ _ (c .before .if4 .taken), twice-not)
+returns-4 c =
+    rw (
+      device-is _ _,
+      ←
+          c .before .before .before .before .before .before .before .before .address-zero .ensures,
+      c .before .before .before .before .before .before
+          .before .if1 .left,
+      le-ltb _ _ (c .before .before .before .before .before .if2 .left),
+      le-ltb _ _ (c .before .before .before .if3 .left),
+      eq-eqb _
+          _ (c .before .if4 .taken),
+      twice-not,
+    )
 
 returns-5 : tie.Need-returns-5
-returns-5 c = rw (device-is _ _, ← c .before .before .before .before .before .before .before .address-zero .ensures, c .before .before .before .before .before .before .if1 .left) (search tests)
+returns-5 c =
+    rw (
+      device-is _ _,
+      ←
+          c .before .before .before .before .before .before .before .address-zero .ensures,
+      c .before .before .before .before .before .before .if1 .left,
+    )
+    (search tests)
 
 pub device-ok-spec : {M : Type 1} → statement M
 device-ok-spec =

@@ -2,7 +2,8 @@
 use mathlib.Core.Path.{_≡_, _∙_}
 use mathlib.Core.Bool.{true}
 use Rattle.model.specs.Tables.{ruleAt}
-use Rattle.records.specs.Slots.{freeZero, list-free}
+use Rattle.records.specs.Slots.{freeZero}
+use Rattle.records.proofs.Slots.{list-free}
 use borrow.Author.Needs.{needs}
 use Rattle.records.proofs.keeps_rule.Statement.{statement}
 use Rattle.records.proofs.keeps_rule.Tie as tie

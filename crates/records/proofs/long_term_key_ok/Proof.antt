@@ -23,7 +23,9 @@ shared-slice-read-if3 : tie.Need-shared-slice-read-if3
 shared-slice-read-if3 c = search needs
 
 returns-2 : tie.Need-returns-2
-returns-2 c = rw (long-term-key-is _ _, ← c .before .before .before .before .before .le-address-ok .ensures, c .before .before .before .before .if1 .taken) (search tests)
+returns-2 c =
+    rw (long-term-key-is _ _, ← c .before .before .before .before .before .le-address-ok .ensures, c .before .before .before .before .if1 .taken)
+    (search tests)
 
 add-if4 : tie.Need-add-if4
 add-if4 c = search needs
@@ -32,7 +34,14 @@ shared-slice-read-if4 : tie.Need-shared-slice-read-if4
 shared-slice-read-if4 c = search needs
 
 returns-3 : tie.Need-returns-3
-returns-3 c = rw (long-term-key-is _ _, ← c .before .before .before .before .before .before .before .le-address-ok .ensures, c .before .before .before .before .before .before .if1 .taken) (search tests)
+returns-3 c =
+    rw (
+      long-term-key-is _ _,
+      ←
+          c .before .before .before .before .before .before .before .le-address-ok .ensures,
+      c .before .before .before .before .before .before .if1 .taken,
+    )
+    (search tests)
 
 add-result : tie.Need-add-result
 add-result c = search needs
@@ -41,7 +50,14 @@ shared-slice-read-result : tie.Need-shared-slice-read-result
 shared-slice-read-result c = search needs
 
 returns-4 : tie.Need-returns-4
-returns-4 c = rw (long-term-key-is _ _, ← c .before .before .before .before .before .before .before .before .le-address-ok .ensures, c .before .before .before .before .before .before .before .if1 .taken) (search tests)
+returns-4 c =
+    rw (
+      long-term-key-is _ _,
+      ←
+          c .before .before .before .before .before .before .before .before .le-address-ok .ensures,
+      c .before .before .before .before .before .before
+          .before .if1 .taken,
+    ) (search tests)
 
 returns-5 : tie.Need-returns-5
 returns-5 c = rw (long-term-key-is _ _, ← c .before .le-address-ok .ensures, c .if1 .left)

@@ -49,7 +49,9 @@ returns-5 c = rw (rule4 _ (c .before .if5 .taken)) (c .blocked-ok .ensures)
 
 device-ok-requires : tie.Need-device-ok-requires
 unfolding deviceRule
-device-ok-requires c κs = let z : ruleAt (c .before .before .before .before .before .before .args .k) .size ≡ 8 = rw (rule5 (c .before .before .before .before .before .before .args .k) (omega arith)) in omega arith
+device-ok-requires c κs =
+    let z : ruleAt (c .before .before .before .before .before .before .args .k) .size ≡ 8 = rw
+    (rule5 (c .before .before .before .before .before .before .args .k) (omega arith)) in omega arith
 
 returns-6 : tie.Need-returns-6
 unfolding deviceRule

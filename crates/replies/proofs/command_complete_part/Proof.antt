@@ -1,7 +1,7 @@
 -- `replies::command_complete_part` meets its contract. The head and the part, written one after the other, are the model's event.
 use mathlib.Core.Path.{_∙_}
 use Rattle.replies.proofs.Laws.{complete-write}
-use Rattle.octets.specs.Parts.{length-part}
+use Rattle.octets.proofs.Parts.{length-part}
 use borrow.Author.Needs.{needs}
 use Rattle.replies.proofs.command_complete_part.Statement.{statement}
 use Rattle.replies.proofs.command_complete_part.Tie as tie

@@ -1,6 +1,6 @@
 -- `replies::refuse_address` meets its contract. The address and type are the first seven octets.
 use mathlib.Core.Path.{refl, _∙_}
-use Rattle.octets.specs.Parts.{part-first}
+use Rattle.octets.proofs.Parts.{part-first}
 use borrow.Author.Needs.{needs}
 use Rattle.replies.proofs.refuse_address.Statement.{statement}
 use Rattle.replies.proofs.refuse_address.Tie as tie

@@ -45,7 +45,8 @@ list-word-requires : tie.Need-list-word-requires
 list-word-requires c κs = search needs
 
 keeps-rule-requires : tie.Need-keeps-rule-requires
-keeps-rule-requires c κs = let g = rw (c .before .before .size-of .ensures) at (c .before .if3 .left) in (search needs, search needs, omega arith, c .list-word .ensures)
+keeps-rule-requires c κs =
+    let g = rw (c .before .before .size-of .ensures) at (c .before .if3 .left) in (search needs, search needs, omega arith, c .list-word .ensures)
 
 add-result : tie.Need-add-result
 add-result c = search needs

@@ -1,4 +1,4 @@
--- The slots of a table where they lie: free slots are zero exactly if the octets are the one encoding of the table that they mean.
+-- Slots of the lent state beside those that a table lays out.
 use Prim.Native.Nat.{ℕ, zero, suc, _+_, _*_, _/_, _%_, _≤_}
 use native.Mathlib.Omega.{arith}
 use native.Mathlib.Nat.{mul-suc, mul-zero}
@@ -13,12 +13,13 @@ use Rattle.model.specs.Octets.{Octets, allZero, bytes, same, u32}
 use Rattle.model.specs.Tables.{chop}
 use Rattle.model.specs.Layout.{occupancy, region, slotOctets, slots, slotsBack}
 use Rattle.model.specs.Proof.Tables.{same-refl}
-use Rattle.octets.specs.Parts.{part, length-part}
+use Rattle.octets.specs.Parts.{part}
+use Rattle.octets.proofs.Parts.{length-part}
 use Rattle.octets.proofs.Numbers.{zeros-append}
 use Rattle.records.specs.Slots.{freeZero}
 use Rattle.table.specs.Slots.{tableAt}
 use Rattle.table.proofs.Regions.{word-at}
-use Rattle.checks.specs.Tests.{le32-part, part-add, same-append, same-zeros, u32-lt}
+use Rattle.checks.proofs.Tests.{le32-part, part-add, same-append, same-zeros, u32-lt}
 
 -- the slots, one and the rest
 part-slots : (s : Octets) (size place n : ℕ) → part s place (size * suc n) ≡ part s place size ++ part s (place + size) (size * n)
@@ -52,7 +53,8 @@ slots-same s size place (suc n) w h =
     let l : length r ≡ size = length-part s place size (omega arith) in
     let d : drop size (drop place s) ≡ drop (place + size) s = drop-drop size place s in
     rw (part-slots s size place n, d)
-    (same-append r (part s (place + size) (size * n)) (slotOctets size (elim (eqb (w % 2) 1) [ true ↦ some r | false ↦ none ])) (slots size (slotsBack (w / 2) (chop size n (drop (place + size) s))))
+    (same-append r (part s (place + size) (size * n)) (slotOctets size (elim (eqb (w % 2) 1) [ true ↦ some r | false ↦ none ]))
+    (slots size (slotsBack (w / 2) (chop size n (drop (place + size) s))))
     (slot-long r size (eqb (w % 2) 1) l)
     ∙ rw (slot-same r size (eqb (w % 2) 1) l, slots-same s size (place + size) n (w / 2) (omega arith)))
 

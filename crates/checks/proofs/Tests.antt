@@ -1,4 +1,4 @@
--- Small facts on tests, octets and numbers that the other modules use.
+-- Small laws of tests, parts and numbers.
 use Prim.Native.Nat.{ℕ, zero, suc, _+_, _*_, _/_, _%_, _<_, _≤_}
 use native.Mathlib.Omega.{arith}
 use native.Mathlib.Nat.{div-div-eq-div-mul, mod-eq-of-lt}
@@ -95,7 +95,8 @@ pub le16-part : (s : Octets) (at : ℕ) → bytes s ≡ true → at + 2 ≤ leng
 unfolding u16 part
 le16-part s at h l =
     let a : at + 1 ≡ suc at = omega arith in
-    rw (a, drop-cons s at 0 (omega arith), drop-cons s (suc at) 0 (omega arith)) (two-octets _ (getD s at 0) (getD s (suc at) 0) refl (byte-at s at h) (byte-at s (suc at) h))
+    rw (a, drop-cons s at 0 (omega arith), drop-cons s (suc at) 0 (omega arith))
+    (two-octets _ (getD s at 0) (getD s (suc at) 0) refl (byte-at s at h) (byte-at s (suc at) h))
 
 -- the same, of four octets
 pub le32-part : (s : Octets) (at : ℕ) → bytes s ≡ true → at + 4 ≤ length s → le32 (u32 s at) ≡ part s at 4
@@ -104,5 +105,15 @@ le32-part s at h l =
     let a : at + 1 ≡ suc at = omega arith in
     let b : at + 2 ≡ suc (suc at) = omega arith in
     let c : suc (suc at) + 1 ≡ suc (suc (suc at)) = omega arith in
-    rw (a, b, c, drop-cons s at 0 (omega arith), drop-cons s (suc at) 0 (omega arith), drop-cons s (suc (suc at)) 0 (omega arith), drop-cons s (suc (suc (suc at))) 0 (omega arith))
-    (four-octets _ (getD s at 0) (getD s (suc at) 0) (getD s (suc (suc at)) 0) (getD s (suc (suc (suc at))) 0) refl (byte-at s at h) (byte-at s (suc at) h) (byte-at s (suc (suc at)) h) (byte-at s (suc (suc (suc at))) h))
+    rw (
+      a,
+      b,
+      c,
+      drop-cons s at 0 (omega arith),
+      drop-cons s (suc at) 0 (omega arith),
+      drop-cons s (suc (suc at)) 0 (omega arith),
+      drop-cons s
+          (suc (suc (suc at))) 0 (omega arith),
+    )
+    (four-octets _ (getD s at 0) (getD s (suc at) 0) (getD s (suc (suc at)) 0) (getD s (suc (suc (suc at))) 0) refl (byte-at s at h)
+    (byte-at s (suc at) h) (byte-at s (suc (suc at)) h) (byte-at s (suc (suc (suc at))) h))
