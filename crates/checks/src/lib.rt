@@ -48,7 +48,7 @@ fn table_ok(s: &[u8], at: usize, k: usize, supported: u32) -> bool
         return blank(s, at + 4, records::size_of(k) * 32);
     }
     if records::supports(k, supported) {
-        return records::slots_fine(k, s, at + 4, 32, w);
+        return records::slots_keep_rules(k, s, at + 4, 32, w);
     }
     false
 }

@@ -8,12 +8,12 @@ use mathlib.Core.Bool.{Bool, true, false, _||_}
 use mathlib.Core.List.{List, [], _∷_, _++_, map, append-nil}
 use lib.ListN.{length, getD, replicate, set, take, getD-replicate, length-map, length-set}
 use lib.Seq.{append-snoc, getD-set-same, getD-set-other, getD-take, length-take-le, take-set-le, take-suc-set}
-use lib.Dec.{eqb, leb}
-use borrow.Author.Tests.{eq-eqb, ne-eqb, eqb-true, eqb-false, leb-true, leb-false}
+use lib.Dec.{eqb, leb, ltb}
+use borrow.Author.Tests.{eq-eqb, ne-eqb, eqb-true, eqb-false, le-ltb, leb-true, leb-false, lt-ltb, ltb-true, ltb-false}
 use Rattle.model.specs.Proof.Tests.{and-true, or-false, or-true}
 use Rattle.records.specs.declared.Identity.{Identity}
 use Rattle.records.specs.Identities.{among, apart, sameIdentity}
-use Rattle.records.specs.Marks.{Doubled, Marked, markOf, meetAny, meetAt, meetFrom, meetWithin, withMark}
+use Rattle.records.specs.Marks.{Doubled, Marked, markOf, meetAny, meetAt, meetFrom, meetWithin, reachOf, withMark}
 
 -- 1. Storing --------------------------------------------------------------------------------------------------------------------------------
 
@@ -85,29 +85,39 @@ pub meet-first : (ms : List ℕ) (d : ℕ) → false || meetFrom ms d 0 (32 - 0)
 unfolding meetAt
 meet-first ms d = refl
 
-module _ (ms : List ℕ) (d : ℕ) where
+module _ (ms : List ℕ) (d end : ℕ) where
   -- this distance, and those left
-  within-step : d ≤ 16 → meetWithin ms d (17 - d) ≡ meetAt ms d || meetWithin ms (d + 1) (17 - (d + 1))
+  within-step : d < end → meetWithin ms d (end - d) ≡ meetAt ms d || meetWithin ms (d + 1) (end - (d + 1))
   unfolding meetWithin
-  within-step l = let e : 17 - d ≡ suc (17 - (d + 1)) = omega arith in rw e
+  within-step l = let e : end - d ≡ suc (end - (d + 1)) = omega arith in rw e
 
   -- two are the same at this distance
-  pub within-hit : d ≤ 16 → meetAt ms d ≡ true → true ≡ meetWithin ms d (17 - d)
+  pub within-hit : d < end → meetAt ms d ≡ true → true ≡ meetWithin ms d (end - d)
   within-hit l e = sym (rw (within-step l, e))
 
   -- none are
-  pub within-miss : d ≤ 16 → meetAt ms d ≡ false → meetWithin ms (d + 1) (17 - (d + 1)) ≡ meetWithin ms d (17 - d)
+  pub within-miss : d < end → meetAt ms d ≡ false → meetWithin ms (d + 1) (end - (d + 1)) ≡ meetWithin ms d (end - d)
   within-miss l e = sym (rw (within-step l, e))
 
   -- no distance is left
-  pub within-last : 16 < d → false ≡ meetWithin ms d (17 - d)
+  pub within-last : end ≤ d → false ≡ meetWithin ms d (end - d)
   unfolding meetWithin
-  within-last l = let e : 17 - d ≡ 0 = omega arith in rw e
+  within-last l = let e : end - d ≡ 0 = omega arith in rw e
 
 -- at the start all distances are left
-pub within-first : (ms : List ℕ) → meetWithin ms 1 (17 - 1) ≡ meetAny ms
+pub within-first : (ms : List ℕ) (n end : ℕ) → end ≡ reachOf n → meetWithin ms 1 (end - 1) ≡ meetAny ms n
 unfolding meetAny
-within-first ms = refl
+within-first ms n end e = rw e
+
+-- how far two of n marks can stand apart, by how many they are
+pub reach-few : (n : ℕ) → n < 17 → reachOf n ≡ n
+unfolding reachOf
+reach-few n l = rw (lt-ltb n 17 l, reachOf)
+
+-- the same, of many
+pub reach-many : (n : ℕ) → 17 ≤ n → reachOf n ≡ 17
+unfolding reachOf
+reach-many n l = rw (le-ltb n 17 l, reachOf)
 
 -- 3. None are the same ----------------------------------------------------------------------------------------------------------------------
 
@@ -129,26 +139,34 @@ within-none ms d (suc n) (suc t) f l =
     let a : d + suc t ≡ d + 1 + t = omega arith in
     rw a (within-none ms (d + 1) n t (or-false (meetAt ms d) _ f .1) (omega arith))
 
--- so no two of the 32 are, one way round or the other
-unlike : (ms : List ℕ) → Doubled ms → meetAny ms ≡ false → (i j : ℕ) → i < j → j < 32 → getD ms i 0 ≡ getD ms j 0 → ⊥
-unfolding meetAny meetAt
-unlike ms d f i j l h e = go (leb (j - i) 16) refl
+-- a distance of at most 16 that is less than n is one of those
+reaches : (n t : ℕ) → t < n → t ≤ 16 → t < reachOf n
+reaches n t l h = go (ltb n 17) refl
   where
-    at : (t a : ℕ) → 0 < t → t ≤ 16 → a < 32 → getD ms a 0 ≡ getD ms (a + t) 0 → ⊥
+    go : (b : Bool) → ltb n 17 ≡ b → t < reachOf n
+    go true e = rw (reach-few n (ltb-true n 17 e)) l
+    go false e = rw (reach-many n (ltb-false n 17 e)) (omega arith)
+
+-- so no two of the first n are, one way round or the other
+unlike : (ms : List ℕ) (n : ℕ) → Doubled ms → n ≤ 32 → meetAny ms n ≡ false → (i j : ℕ) → i < j → j < n → getD ms i 0 ≡ getD ms j 0 → ⊥
+unfolding meetAny meetAt
+unlike ms n d few f i j l h e = go (leb (j - i) 16) refl
+  where
+    at : (t a : ℕ) → 0 < t → t < reachOf n → a < 32 → getD ms a 0 ≡ getD ms (a + t) 0 → ⊥
     at t a p q r =
         let b : 1 + (t - 1) ≡ t = omega arith in
-        let n : meetAt ms t ≡ false = rw b at (within-none ms 1 16 (t - 1) f (omega arith)) in
+        let m : meetAt ms t ≡ false = rw b at (within-none ms 1 (reachOf n - 1) (t - 1) f (omega arith)) in
         let z : 0 + a ≡ a = omega arith in
-        rw z at (from-none ms t 0 32 a n r)
+        rw z at (from-none ms t 0 32 a m r)
 
     go : (b : Bool) → leb (j - i) 16 ≡ b → ⊥
     go true q =
         let z : i + (j - i) ≡ j = omega arith in
-        at (j - i) i (omega arith) (leb-true (j - i) 16 q) (omega arith) (rw z e)
+        at (j - i) i (omega arith) (reaches n (j - i) (omega arith) (leb-true (j - i) 16 q)) (omega arith) (rw z e)
     go false q =
         let m = leb-false (j - i) 16 q in
         let z : j + (32 - (j - i)) ≡ i + 32 = omega arith in
-        at (32 - (j - i)) j (omega arith) (omega arith) h (rw z (sym e ∙ sym (d .again i (omega arith))))
+        at (32 - (j - i)) j (omega arith) (reaches n (32 - (j - i)) (omega arith) (omega arith)) (omega arith) (rw z (sym e ∙ sym (d .again i (omega arith))))
 
 -- 4. Identities -----------------------------------------------------------------------------------------------------------------------------
 
@@ -179,14 +197,16 @@ apart-unlike (a ∷ ds) n =
     rw f (apart-unlike ds (λ i j l h. n (suc i) (suc j) (omega arith) (omega arith)))
 
 -- so identities whose marks were looked through are apart, where no two were the same
-pub marks-apart : (ds : List Identity) (ms : List ℕ) → Marked ds ms → meetAny ms ≡ false → apart ds ≡ true
-marks-apart ds ms m f = apart-unlike ds told
+pub marks-apart : (ds : List Identity) (n : ℕ) (ms : List ℕ) → Marked ds n ms → meetAny ms n ≡ false → apart ds ≡ true
+marks-apart ds n ms m f = apart-unlike ds told
   where
-    mark : (i : ℕ) → i < length ds → getD (map markOf ds) i 0 ≡ getD ms i 0
-    mark i l = rw (← m .first) (getD-take (length ds) ms i 0 l)
+    mark : (i : ℕ) → i < n → getD (map markOf ds) i 0 ≡ getD ms i 0
+    mark i l = rw (← m .first) (getD-take n ms i 0 l)
 
     told : (i j : ℕ) → i < j → j < length ds → getD (map markOf ds) i 0 ≡ getD (map markOf ds) j 0 → ⊥
-    told i j l h e = unlike ms (m .doubled) f i j l (omega (arith, m .few)) (sym (mark i (omega arith)) ∙ e ∙ mark j h)
+    told i j l h e =
+        let q : j < n = omega (arith, m .count) in
+        unlike ms n (m .doubled) (m .few) f i j l q (sym (mark i (omega arith)) ∙ e ∙ mark j q)
 
 -- 5. Marking one behind the other -------------------------------------------------------------------------------------------------------------
 
@@ -200,9 +220,9 @@ pub left-more : (ms : List ℕ) (found m : ℕ) (a : Identity) (rest ds : List I
 left-more ms found m a rest ds d l q e = rw (put-take ms found m d l, append-snoc (take found ms) m (map markOf rest), q) e
 
 -- none is left
-pub left-done : (ms : List ℕ) (found : ℕ) (ds : List Identity) → Doubled ms → found ≤ 32 → Left ms found [] ds → Marked ds ms
+pub left-done : (ms : List ℕ) (found : ℕ) (ds : List Identity) → Doubled ms → found ≤ 32 → Left ms found [] ds → Marked ds found ms
 left-done ms found ds d l e =
     let t : take found ms ≡ map markOf ds = sym (append-nil (take found ms)) ∙ e in
     let n : length (take found ms) ≡ found = length-take-le found ms (omega (arith, d .long)) in
     let q : length ds ≡ found = sym (length-map ds markOf) ∙ sym (ap (λ (x : List ℕ). length x) t) ∙ n in
-    record { few = omega arith; first = rw q t; doubled = d }
+    record { few = l; count = q; first = t; doubled = d }

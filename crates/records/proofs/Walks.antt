@@ -17,7 +17,7 @@ use Rattle.records.specs.declared.Identity.{Identity}
 use Rattle.records.specs.Slots.{freeZero, recordsAt}
 use Rattle.records.proofs.Slots.{used-slot, free-slot, no-more}
 use Rattle.records.specs.Identities.{among, apart, behind, collected, identityOf, numbered, paired, sameIdentity}
-use Rattle.records.specs.Marks.{Checked, Doubled, markOf, slotsFine, withMark}
+use Rattle.records.specs.Marks.{Checked, Doubled, markOf, slotsKeepRules, withMark}
 use Rattle.records.proofs.Laws.{every-end, every-fails, every-free, every-used, free-end, free-fails, free-used, free-zero, room}
 use Rattle.records.proofs.Marking.{Left, left-done, left-more, put-doubled}
 
@@ -28,24 +28,24 @@ pub record Walk (k : ℕ) (s : Octets) (size place n w : ℕ) (ms : List ℕ) (a
   pub sized : size ≡ ruleAt k .size
   pub within : at + size * left ≤ length s
   pub few : found + left ≤ 32
-  pub fine : slotsFine k s size at left word ≡ slotsFine k s (ruleAt k .size) place n w
+  pub valid : slotsKeepRules k s size at left word ≡ slotsKeepRules k s (ruleAt k .size) place n w
   pub doubled : Doubled ms
   pub marked : Left ms found (map (identityOf k) (recordsAt s size at left word)) (map (identityOf k) (recordsAt s (ruleAt k .size) place n w))
 
 -- at the start all slots are left
 pub walk-first : (k : ℕ) (s : Octets) (size : ℕ) (ms : List ℕ) (place n w : ℕ) → size ≡ ruleAt k .size → place + ruleAt k .size * n ≤ length s
     → n ≤ 32 → Doubled ms → Walk k s size place n w ms place n w 0
-walk-first k s size ms place n w e h l d = record { sized = e; within = rw e h; few = omega arith; fine = rw e; doubled = d; marked = rw e }
+walk-first k s size ms place n w e h l d = record { sized = e; within = rw e h; few = omega arith; valid = rw e; doubled = d; marked = rw e }
 
 module _ (k : ℕ) (s : Octets) (size place n w : ℕ) (ms : List ℕ) (at left word found : ℕ) (v : Walk k s size place n w ms at left word found) where
   -- no slot is left
-  pub walk-end : left ≤ 0 → Checked k s place n w true ms
+  pub walk-end : left ≤ 0 → Checked k s place n w (record { valid = true; found = found }) ms
   walk-end z =
       let e : recordsAt s size at left word ≡ [] = no-more s size at left word z in
       let f : every (recordOk (ruleAt k)) (recordsAt s size at left word) ≡ true =
       sym (every-end (ruleAt k) s size (v .sized) at left word z) in
       record {
-        fine = sym (sym (v .fine) ∙ both (free-end s size at left word z) f);
+        valid = sym (sym (v .valid) ∙ both (free-end s size at left word z) f);
         marked = λ _.
             left-done ms found (map (identityOf k) (recordsAt s (ruleAt k .size) place n w)) (v .doubled) (omega (arith, v .few)) (rw e at (v .marked));
       }
@@ -59,12 +59,12 @@ module _ (k : ℕ) (s : Octets) (size place n w : ℕ) (ms : List ℕ) (at left 
   walk-here l = rw (v .sized) at (here l)
 
   -- a slot that is not fine: neither are all
-  spoilt : (ns : List ℕ) → slotsFine k s size at left word ≡ false → Checked k s place n w false ns
-  spoilt ns f = record { fine = sym f ∙ v .fine; marked = λ z. no-way (sym z) }
+  spoilt : (ns : List ℕ) → slotsKeepRules k s size at left word ≡ false → Checked k s place n w (record { valid = false; found = found }) ns
+  spoilt ns f = record { valid = sym f ∙ v .valid; marked = λ z. no-way (sym z) }
 
   -- a record that breaks its rule
   pub walk-breaks : (ns : List ℕ) → 0 < left → word % 2 ≡ 1 → passes (ruleAt k .checks (part s at (ruleAt k .size))) ≡ false
-      → Checked k s place n w false ns
+      → Checked k s place n w (record { valid = false; found = found }) ns
   walk-breaks ns l b p =
       let f : every (recordOk (ruleAt k)) (recordsAt s size at left word) ≡ false =
       sym (every-fails (ruleAt k) s size (v .sized) at left word l b (here l) p) in
@@ -72,7 +72,7 @@ module _ (k : ℕ) (s : Octets) (size place n w : ℕ) (ms : List ℕ) (at left 
 
   -- a free slot that is not zero
   pub walk-stained : (ns : List ℕ) → 0 < left → (word % 2 ≡ 1 → ⊥) → allZero (part s at (ruleAt k .size)) ≡ false
-      → Checked k s place n w false ns
+      → Checked k s place n w (record { valid = false; found = found }) ns
   walk-stained ns l b z = spoilt ns (rw (free-fails s size at left word l b (rw (v .sized) z)))
 
   -- a record that keeps its rule is marked
@@ -85,7 +85,7 @@ module _ (k : ℕ) (s : Octets) (size place n w : ℕ) (ms : List ℕ) (at left 
         sized = v .sized;
         within = room at size left (length s) l (v .within);
         few = omega (arith, v .few);
-        fine = rw (free-used s size at left word l b, every-used (ruleAt k) s size (v .sized) at left word l b (here l) p) (v .fine);
+        valid = rw (free-used s size at left word l b, every-used (ruleAt k) s size (v .sized) at left word l b (here l) p) (v .valid);
         doubled = put-doubled ms found m (v .doubled) (omega (arith, v .few));
         marked = left-more ms found m (identityOf k (part s at size)) (map (identityOf k) (recordsAt s size (at + size) (left - 1) (word / 2)))
             (map (identityOf k) (recordsAt s (ruleAt k .size) place n w)) (v .doubled) (omega (arith, v .few)) (rw (v .sized) q) (rw e at (v .marked));
@@ -98,22 +98,22 @@ module _ (k : ℕ) (s : Octets) (size place n w : ℕ) (ms : List ℕ) (at left 
     sized = v .sized;
     within = room at size left (length s) l (v .within);
     few = omega (arith, v .few);
-    fine = rw (free-zero s size at left word l b (rw (v .sized) z), every-free (ruleAt k) s size (v .sized) at left word l b) (v .fine);
+    valid = rw (free-zero s size at left word l b (rw (v .sized) z), every-free (ruleAt k) s size (v .sized) at left word l b) (v .valid);
     doubled = v .doubled;
     marked = rw (free-slot s size at left word l b) at (v .marked);
   }
 
 -- slots that are fine hold what their table may hold exactly if no identity is repeated
-pub fine-goes : (f e d : Bool) → f && e ≡ true → d ≡ f && (e && d)
-fine-goes true true d q = refl
-fine-goes true false d q = no-way (sym q)
-fine-goes false e d q = no-way (sym q)
+pub valid-goes : (f e d : Bool) → f && e ≡ true → d ≡ f && (e && d)
+valid-goes true true d q = refl
+valid-goes true false d q = no-way (sym q)
+valid-goes false e d q = no-way (sym q)
 
 -- and slots that are not hold what it may not
-pub fine-fails : (f e d : Bool) → f && e ≡ false → false ≡ f && (e && d)
-fine-fails true true d q = no-way q
-fine-fails true false d q = refl
-fine-fails false e d q = refl
+pub valid-fails : (f e d : Bool) → f && e ≡ false → false ≡ f && (e && d)
+valid-fails true true d q = no-way q
+valid-fails true false d q = refl
+valid-fails false e d q = refl
 
 -- 2. The slots of a table: identities collected ------------------------------------------------------------------------------------------------
 

@@ -1,14 +1,15 @@
 -- Marks: numbers of 32 bits, one for each identity. Two identities that are one have one mark, so records whose marks all differ have no
 -- repeat. 32 marks are held twice over, one row behind the other: then those that stand d apart in the round stand d apart in the list.
-use Prim.Native.Nat.{ℕ, zero, suc, _+_, _*_, _/_, _%_, _<_, _≤_}
+use Prim.Native.Nat.{ℕ, zero, suc, _+_, _-_, _*_, _/_, _%_, _<_, _≤_}
 use mathlib.Core.Path.{_≡_}
 use mathlib.Core.Bool.{Bool, true, false, _&&_, _||_}
 use mathlib.Core.List.{List, map}
 use lib.ListN.{length, getD, set, take}
-use lib.Dec.{eqb}
+use lib.Dec.{eqb, ltb}
 use Rattle.model.specs.Octets.{Octets}
 use Rattle.model.specs.Tables.{every, recordOk, ruleAt}
 use Rattle.records.specs.declared.Identity.{Identity}
+use Rattle.records.specs.declared.Looked.{Looked}
 use Rattle.records.specs.Slots.{freeZero, recordsAt}
 use Rattle.records.specs.Identities.{identityOf}
 
@@ -30,20 +31,21 @@ pub record Doubled (ms : List ℕ) : Type 0 where
 abbrev pub withMark : List ℕ → (i m : ℕ) → List ℕ
 withMark ms i m = set (set ms i m) (i + 32) m
 
--- the marks of some identities stand first
-pub record Marked (ds : List Identity) (ms : List ℕ) : Type 0 where
-  pub few : length ds ≤ 32
-  pub first : take (length ds) ms ≡ map markOf ds
+-- the marks of some identities, n of them, stand first
+pub record Marked (ds : List Identity) (n : ℕ) (ms : List ℕ) : Type 0 where
+  pub few : n ≤ 32
+  pub count : length ds ≡ n
+  pub first : take n ms ≡ map markOf ds
   pub doubled : Doubled ms
 
 -- the free ones of n slots of table k from a place on are zero, and each record in the others keeps its own rule
-abbrev pub slotsFine : (k : ℕ) → Octets → (size place n w : ℕ) → Bool
-slotsFine k s size place n w = freeZero s size place n w && every (recordOk (ruleAt k)) (recordsAt s size place n w)
+abbrev pub slotsKeepRules : (k : ℕ) → Octets → (size place n w : ℕ) → Bool
+slotsKeepRules k s size place n w = freeZero s size place n w && every (recordOk (ruleAt k)) (recordsAt s size place n w)
 
--- slots were looked at: whether they are fine, and if so their records are marked
-pub record Checked (k : ℕ) (s : Octets) (place n w : ℕ) (r : Bool) (ms : List ℕ) : Type 0 where
-  pub fine : r ≡ slotsFine k s (ruleAt k .size) place n w
-  pub marked : r ≡ true → Marked (map (identityOf k) (recordsAt s (ruleAt k .size) place n w)) ms
+-- slots were looked at: whether they are fine, and if so their records are marked and counted
+pub record Checked (k : ℕ) (s : Octets) (place n w : ℕ) (r : Looked) (ms : List ℕ) : Type 0 where
+  pub valid : r .valid ≡ slotsKeepRules k s (ruleAt k .size) place n w
+  pub marked : r .valid ≡ true → Marked (map (identityOf k) (recordsAt s (ruleAt k .size) place n w)) (r .found) ms
 
 -- of n marks from number i on, one is the same as the one d behind it
 unfoldable pub meetFrom : List ℕ → (d i n : ℕ) → Bool
@@ -59,6 +61,10 @@ unfoldable pub meetWithin : List ℕ → (d n : ℕ) → Bool
 meetWithin ms d zero = false
 meetWithin ms d (suc n) = meetAt ms d || meetWithin ms (d + 1) n
 
--- two of the 32 are the same: in the round no two stand more than 16 apart
-unfoldable pub meetAny : List ℕ → Bool
-meetAny ms = meetWithin ms 1 16
+-- the distance that two of the first n never have, nor any beyond it: in the round of 32 no two stand more than 16 apart
+unfoldable pub reachOf : ℕ → ℕ
+reachOf n = elim (ltb n 17) [ true ↦ n | false ↦ 17 ]
+
+-- two are the same at a distance that two of the first n can have
+unfoldable pub meetAny : List ℕ → ℕ → Bool
+meetAny ms n = meetWithin ms 1 (reachOf n - 1)

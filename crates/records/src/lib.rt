@@ -24,6 +24,12 @@ pub struct Identity {
     pub high: u64,
 }
 
+// What a walk over slots saw: whether all is fine there, and how many records there are.
+struct Looked {
+    valid: bool,
+    found: usize,
+}
+
 // The record size of table k.
 pub fn size_of(k: usize) -> usize
     requires { ⌜ k < 6 ⌝ }
@@ -246,7 +252,7 @@ pub fn same_identity(a: Identity, b: Identity) -> bool
 
 // Whether of the n slots of table k from a place on the free ones are zero and each record in the others keeps its own rule. If so, the
 // marks of the records are left, in slot order.
-fn slots_ok(k: usize, s: &[u8], place: usize, n: usize, w: u64, marks: &mut [u32; 64]) -> bool
+fn slots_ok(k: usize, s: &[u8], place: usize, n: usize, w: u64, marks: &mut [u32; 64]) -> Looked
     requires { ⌜ (k < 6) × (n ≤ 32) × (place + ruleAt k .size * n ≤ length (now s)) × Doubled (now marks) ⌝ }
     ensures { λ r. ⌜ Checked k (now (s .entry)) place n w r (now (marks .exit)) ⌝ }
 {
@@ -258,24 +264,37 @@ fn slots_ok(k: usize, s: &[u8], place: usize, n: usize, w: u64, marks: &mut [u32
     while 0 < left {
         if word % 2 == 1 {
             if !record_ok(k, s, at) {
-                return false;
+                return Looked {
+                    valid: false,
+                    found,
+                };
             }
             marks::put_mark(marks, found, marks::mark_of(identity_at(k, s, at)));
             found += 1;
         } else {
             if !slot_zero(k, s, at) {
-                return false;
+                return Looked {
+                    valid: false,
+                    found,
+                };
             }
         }
         at = at + size;
         left = left - 1;
         word = word / 2;
     }
-    true
+    Looked { valid: true, found }
 }
 
 // The same, with the table's number known where the loop begins: the compiler makes a loop of its own for each table.
-fn table_slots_ok(k: usize, s: &[u8], place: usize, n: usize, w: u64, marks: &mut [u32; 64]) -> bool
+fn table_slots_ok(
+    k: usize,
+    s: &[u8],
+    place: usize,
+    n: usize,
+    w: u64,
+    marks: &mut [u32; 64],
+) -> Looked
     requires { ⌜ (k < 6) × (n ≤ 32) × (place + ruleAt k .size * n ≤ length (now s)) × Doubled (now marks) ⌝ }
     ensures { λ r. ⌜ Checked k (now (s .entry)) place n w r (now (marks .exit)) ⌝ }
 {
@@ -333,7 +352,7 @@ fn collect(
 // The marks of n identities.
 fn marks_of(low: &[u64; 32], high: &[u64; 32], n: usize) -> [u32; 64]
     requires { ⌜ (n ≤ 32) × (length (now low) ≡ 32) × (length (now high) ≡ 32) ⌝ }
-    ensures { λ r. ⌜ Marked (collected (now (low .entry)) (now (high .entry)) n) r ⌝ }
+    ensures { λ r. ⌜ Marked (collected (now (low .entry)) (now (high .entry)) n) n r ⌝ }
 {
     let mut marks = marks::no_marks();
     let mut i: usize = 0;
@@ -392,7 +411,7 @@ pub fn distinct_identities(low: &[u64; 32], high: &[u64; 32], n: usize) -> bool
     ensures { λ r. ⌜ r ≡ apart (collected (now (low .entry)) (now (high .entry)) n) ⌝ }
 {
     let marks = marks_of(low, high, n);
-    if marks::meet(&marks) {
+    if marks::meet(&marks, n) {
         return all_apart(low, high, n);
     }
     true
@@ -411,14 +430,15 @@ pub fn distinct(k: usize, s: &[u8], place: usize, n: usize, w: u64) -> bool
 
 // Whether of the n slots of table k from a place on the free ones are zero and the records keep the table's rule: each its own, and none is
 // repeated. One walk looks at the slots and marks the records; identities are compared only where two marks are the same.
-pub fn slots_fine(k: usize, s: &[u8], place: usize, n: usize, w: u64) -> bool
+pub fn slots_keep_rules(k: usize, s: &[u8], place: usize, n: usize, w: u64) -> bool
     requires { ⌜ (k < 6) × (n ≤ 32) × (place + ruleAt k .size * n ≤ length (now s)) ⌝ }
     ensures { λ r. ⌜ r ≡ freeZero (now (s .entry)) (ruleAt k .size) place n w
         && Tables.recordsOk (ruleAt k) (recordsAt (now (s .entry)) (ruleAt k .size) place n w) ⌝ }
 {
     let mut marks = marks::no_marks();
-    if table_slots_ok(k, s, place, n, w, &mut marks) {
-        if marks::meet(&marks) {
+    let looked = table_slots_ok(k, s, place, n, w, &mut marks);
+    if looked.valid {
+        if marks::meet(&marks, looked.found) {
             return distinct(k, s, place, n, w);
         }
         return true;
@@ -431,7 +451,10 @@ pub fn keeps_rule(k: usize, s: &[u8], place: usize, n: usize, w: u64) -> bool
     requires { ⌜ (k < 6) × (n ≤ 32) × (place + ruleAt k .size * n ≤ length (now s)) × (w ≡ 2 ^ n - 1) ⌝ }
     ensures { λ r. ⌜ r ≡ Tables.recordsOk (ruleAt k) (recordsAt (now (s .entry)) (ruleAt k .size) place n w) ⌝ }
 {
-    slots_fine(k, s, place, n, w)
+    if n == 0 {
+        return true;
+    }
+    slots_keep_rules(k, s, place, n, w)
 }
 
 // The word of a list of n records: all n slots are in use.

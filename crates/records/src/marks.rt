@@ -2,7 +2,7 @@
 // other, so that every pair is compared in straight runs of 32, whatever the octets are.
 ghost use mathlib.Core.Path.{_≡_};
 ghost use Prim.Native.Nat.{_≤_, _<_};
-ghost use Rattle.records.specs.Marks.{markOf, Doubled, meetAt, meetAny, withMark};
+ghost use Rattle.records.specs.Marks.{markOf, Doubled, meetAt, meetAny, reachOf, withMark};
 use crate::Identity;
 
 // The mark of an identity, a number of 32 bits. Identities that differ in one run of four octets only have two marks: each factor is odd.
@@ -54,12 +54,23 @@ fn meet_at(marks: &[u32; 64], d: usize) -> bool
     met
 }
 
-// Whether two of the 32 marks are the same: no two stand more than 16 apart in the round.
-pub fn meet(marks: &[u32; 64]) -> bool
-    ensures { λ r. ⌜ r ≡ meetAny (now (marks .entry)) ⌝ }
+// The distance that two of the first n marks never have, nor any beyond it: in the round of 32 no two stand more than 16 apart.
+fn reach(n: usize) -> usize
+    ensures { λ r. ⌜ (r ≡ reachOf n) × (r ≤ 17) ⌝ }
 {
+    if n < 17 {
+        return n;
+    }
+    17
+}
+
+// Whether two of the first n marks are the same. Marks behind those are compared too, and differ.
+pub fn meet(marks: &[u32; 64], n: usize) -> bool
+    ensures { λ r. ⌜ r ≡ meetAny (now (marks .entry)) n ⌝ }
+{
+    let end = reach(n);
     let mut d: usize = 1;
-    while d <= 16 {
+    while d < end {
         if meet_at(marks, d) {
             return true;
         }

@@ -31,17 +31,17 @@ returns c = λ f e.
 supports-requires : tie.Need-supports-requires
 supports-requires c κs = search needs
 
-add-slots-fine : tie.Need-add-slots-fine
-add-slots-fine c = search needs
+add-slots-keep-rules : tie.Need-add-slots-keep-rules
+add-slots-keep-rules c = search needs
 
-slots-fine-requires : tie.Need-slots-fine-requires
-slots-fine-requires c κs = (search needs, omega arith, search needs)
+slots-keep-rules-requires : tie.Need-slots-keep-rules-requires
+slots-keep-rules-requires c κs = (search needs, omega arith, search needs)
 
 returns-2 : tie.Need-returns-2
 returns-2 c = λ f e.
     let a = c .before .before .before .before .before .before .args in
     let supported = sym (c .before .before .supports .ensures f e) ∙ c .before .if2 .taken in
-    c .slots-fine .ensures ∙ table-told (ruleAt (a .k)) f (a .s .now) (a .at) _ (c .before .before .before .before .u32-at .ensures .0) supported
+    c .slots-keep-rules .ensures ∙ table-told (ruleAt (a .k)) f (a .s .now) (a .at) _ (c .before .before .before .before .u32-at .ensures .0) supported
 
 returns-3 : tie.Need-returns-3
 returns-3 c = λ f e.
@@ -61,7 +61,7 @@ table-ok-spec =
     blank-requires
     returns
     supports-requires
-    add-slots-fine
-    slots-fine-requires
+    add-slots-keep-rules
+    slots-keep-rules-requires
     returns-2
     returns-3)

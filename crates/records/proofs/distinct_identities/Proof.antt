@@ -18,7 +18,7 @@ returns : tie.Need-returns
 returns c = c .all-apart .ensures
 
 returns-2 : tie.Need-returns-2
-returns-2 c = sym (marks-apart _ _ (c .before .before .before .marks-of .ensures) (sym (c .before .meet .ensures) ∙ c .if1 .left))
+returns-2 c = sym (marks-apart _ _ _ (c .before .before .before .marks-of .ensures) (sym (c .before .meet .ensures) ∙ c .if1 .left))
 
 pub distinct-identities-spec : {M : Type 1} → statement M
 distinct-identities-spec =

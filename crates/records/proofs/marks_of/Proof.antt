@@ -1,4 +1,5 @@
 -- `records::marks_of` meets its contract. The invariant: the identities before number i are marked, and those from there on are left.
+use mathlib.Core.Path.{_≡_}
 use Prim.Native.Nat.{_+_, _-_, _≤_, _<_}
 use native.Mathlib.Omega.{arith}
 use Rattle.records.specs.Identities.{behind, collected, numbered}
@@ -68,7 +69,9 @@ returns c =
     let i = c .before .loop .i in
     let v = c .before .loop .inv in
     let e = behind-end low high n (search needs) (search needs) i (c .loop-test .left) in
-    left-done _ i (collected low high n) (v .1) (omega arith) (rw e at (v .2))
+    let q : i ≡ n = omega arith in
+    let done = left-done _ i (collected low high n) (v .1) (omega arith) (rw e at (v .2)) in
+    rw q at done
 
 pub marks-of-spec : {M : Type 1} → statement M
 marks-of-spec =

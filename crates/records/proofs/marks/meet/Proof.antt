@@ -9,21 +9,24 @@ use Rattle.records.proofs.marks.meet.Statement.{statement}
 use Rattle.records.proofs.marks.meet.Tie as tie
 
 abbrev Inv-loop : tie.InvT-loop
-Inv-loop marks d₀ d = (d ≤ 17) × (meetWithin marks d (17 - d) ≡ meetAny marks)
+Inv-loop marks n end d₀ d = (end ≤ 17) × (meetWithin marks d (end - d) ≡ meetAny marks n)
 
 abbrev μ-loop : tie.MeasureT-loop
-μ-loop marks d₀ d = 17 - d
+μ-loop marks n end d₀ d = end - d
+
+reach-requires : tie.Need-reach-requires Inv-loop μ-loop
+reach-requires c κs = search needs
 
 loop-holds : tie.Need-loop-holds Inv-loop μ-loop
-loop-holds c = (omega arith, within-first _)
+loop-holds c = (c .reach .ensures .1, within-first _ _ _ (c .reach .ensures .0))
 
 meet-at-requires : tie.Need-meet-at-requires Inv-loop μ-loop
-meet-at-requires c κs = search needs
+meet-at-requires c κs = let h = c .before .loop .inv .0 in omega arith
 
 returns : tie.Need-returns Inv-loop μ-loop
 returns c =
     let met = sym (c .before .meet-at .ensures) ∙ c .if1 .taken in
-    within-hit _ _ (c .before .before .loop-test .taken) met ∙ c .before .before .before .loop .inv .1
+    within-hit _ _ _ (c .before .before .loop-test .taken) met ∙ c .before .before .before .loop .inv .1
 
 add-d : tie.Need-add-d Inv-loop μ-loop
 add-d c = search needs
@@ -34,10 +37,10 @@ loop-less c = search needs
 loop-again : tie.Need-loop-again Inv-loop μ-loop
 loop-again c =
     let none = sym (c .before .meet-at .ensures) ∙ c .if1 .left in
-    (search needs, within-miss _ _ (c .before .before .loop-test .taken) none ∙ c .before .before .before .loop .inv .1)
+    (c .before .before .before .loop .inv .0, within-miss _ _ _ (c .before .before .loop-test .taken) none ∙ c .before .before .before .loop .inv .1)
 
 returns-2 : tie.Need-returns-2 Inv-loop μ-loop
-returns-2 c = within-last _ _ (c .loop-test .left) ∙ c .before .loop .inv .1
+returns-2 c = within-last _ _ _ (c .loop-test .left) ∙ c .before .loop .inv .1
 
 pub meet-spec : {M : Type 1} → statement M
 meet-spec =
@@ -45,6 +48,7 @@ meet-spec =
     (tie.spec
     Inv-loop
     μ-loop
+    reach-requires
     loop-holds
     meet-at-requires
     returns

@@ -1,4 +1,4 @@
--- `records::slots_fine` meets its contract. Slots that are fine, with no two marks the same, repeat nothing; with two the same, the identities tell.
+-- `records::slots_keep_rules` meets its contract. Slots that are fine, with no two marks the same, repeat nothing; with two the same, the identities tell.
 use mathlib.Core.Path.{sym, _∙_}
 use mathlib.Core.List.{map}
 use native.Mathlib.Omega.{arith}
@@ -7,10 +7,10 @@ use Rattle.model.specs.Tables.{distinct, every, recordOk, recordsOk, ruleAt}
 use Rattle.records.specs.Slots.{freeZero, recordsAt}
 use Rattle.records.proofs.Identities.{slots-told}
 use Rattle.records.proofs.Marking.{marks-apart}
-use Rattle.records.proofs.Walks.{fine-fails, fine-goes}
+use Rattle.records.proofs.Walks.{valid-fails, valid-goes}
 use borrow.Author.Needs.{needs}
-use Rattle.records.proofs.slots_fine.Statement.{statement}
-use Rattle.records.proofs.slots_fine.Tie as tie
+use Rattle.records.proofs.slots_keep_rules.Statement.{statement}
+use Rattle.records.proofs.slots_keep_rules.Tie as tie
 
 no-marks-requires : tie.Need-no-marks-requires
 no-marks-requires c κs = search needs
@@ -33,8 +33,8 @@ returns c =
     let rs = recordsAt s (ruleAt (a .k) .size) (a .place) (a .n) (a .w) in
     let each = every (recordOk (ruleAt (a .k))) rs in
     let apart = distinct (map (ruleAt (a .k) .key) rs) in
-    let fine = sym (c .before .before .before .before .before .table-slots-ok .ensures .fine) ∙ c .before .before .before .before .if1 .taken in
-    c .distinct .ensures ∙ fine-goes free each apart fine
+    let valid = sym (c .before .before .before .before .before .table-slots-ok .ensures .valid) ∙ c .before .before .before .before .if1 .taken in
+    c .distinct .ensures ∙ valid-goes free each apart valid
 
 returns-2 : tie.Need-returns-2
 unfolding recordsOk
@@ -48,9 +48,9 @@ returns-2 c =
     let wide = slice-bytes s (λ k. omega (arith, c .before .before .before .before .before .before .before .shared-slice-known .given k)) in
     let told = slots-told (a .k) s (a .place) (a .n) (a .w) (search needs) (search needs) wide in
     let none = sym (c .before .meet .ensures) ∙ c .if2 .left in
-    let all = marks-apart _ _ (c .before .before .before .before .table-slots-ok .ensures .marked (c .before .before .before .if1 .taken)) none in
-    let fine = sym (c .before .before .before .before .table-slots-ok .ensures .fine) ∙ c .before .before .before .if1 .taken in
-    sym all ∙ told ∙ fine-goes free each apart fine
+    let all = marks-apart _ _ _ (c .before .before .before .before .table-slots-ok .ensures .marked (c .before .before .before .if1 .taken)) none in
+    let valid = sym (c .before .before .before .before .table-slots-ok .ensures .valid) ∙ c .before .before .before .if1 .taken in
+    sym all ∙ told ∙ valid-goes free each apart valid
 
 returns-3 : tie.Need-returns-3
 unfolding recordsOk
@@ -61,10 +61,10 @@ returns-3 c =
     let rs = recordsAt s (ruleAt (a .k) .size) (a .place) (a .n) (a .w) in
     let each = every (recordOk (ruleAt (a .k))) rs in
     let apart = distinct (map (ruleAt (a .k) .key) rs) in
-    fine-fails free each apart (sym (c .before .table-slots-ok .ensures .fine) ∙ c .if1 .left)
+    valid-fails free each apart (sym (c .before .table-slots-ok .ensures .valid) ∙ c .if1 .left)
 
-pub slots-fine-spec : {M : Type 1} → statement M
-slots-fine-spec =
+pub slots-keep-rules-spec : {M : Type 1} → statement M
+slots-keep-rules-spec =
     tie.close
     (tie.spec
     no-marks-requires
