@@ -13,48 +13,50 @@ use borrow.Author.Tests.{le-leb, lt-leb}
 use Rattle.model.specs.Events as Events
 use Rattle.model.specs.Lengths as Lengths
 use Rattle.model.specs.declared.Timer.{Timer}
+use Rattle.model.specs.declared.Schedule.{Schedule}
 use Rattle.model.specs.declared.Settings.{Settings}
+use Rattle.model.specs.Advertising.{advertisingRemoved, instances, removedOf, rescheduled, seconds}
 use Rattle.model.specs.Octets.{Octets, le32, event}
-use Rattle.model.specs.State.{Controller, Hub, OpenCommand, PlainHub, currentSettings, settingsOf, withController, withHost, withTimer}
+use Rattle.model.specs.State.{Controller, Hub, OpenCommand, PlainHub, currentSettings, settingsOf, withAdvertising, withController, withHost, withSchedule}
+use Rattle.model.specs.State.{withTimer}
 use Rattle.model.specs.Hub.{finished, badArgument, clockOut, countdown, ends, stepOf, tick, tickEvents, tickSlot}
 use Rattle.model.specs.Layout.{controllersIn, decode, encode}
 use Rattle.model.specs.Meanings.{stateOk}
 use Rattle.model.specs.WellFormed.{controllerOk, openOk}
+use Rattle.model.specs.Proof.Advertising.{advertising-fit, none-removed, rescheduled-same}
 use Rattle.model.specs.Proof.Demand3.{state-long}
 use Rattle.octets.specs.Parts.{writeAt}
 use Rattle.layout.specs.Places.{Ready, controllerOf, openAt, presentAt, putController, withClock}
+use Rattle.layout.proofs.Advertising.{advertising-fine}
 use Rattle.layout.proofs.Reading.{absent-slot, present-slot}
 use Rattle.layout.proofs.Change.{controller-fine}
 use Rattle.layout.proofs.Kept.{controller-decoded, controller-ready, host-fine}
-use Rattle.rules.specs.Effects.{settingsTimer, withSettings}
+use Rattle.rules.specs.Effects.{settingsTimer, withSettings, withTurns}
 use Rattle.rules.proofs.Ties.{tick-only}
+use Rattle.turns.specs.Walk.{Sound}
+use Rattle.turns.proofs.Seconds.{seconds-rest}
+use Rattle.turns.proofs.Sound.{sound-of}
 use Rattle.replies.specs.Answers.{Gives}
 use Rattle.model.specs.declared.Answer.{Answer}
 use Rattle.model.specs.declared.Answer.the-variants.{Done, BadArgument}
 use Rattle.replies.proofs.Laws.{length-new-settings, then}
 use Rattle.outcomes.specs.Outcomes.{ended}
 use Rattle.outcomes.proofs.Endings.{ends-done}
-use Rattle.calls.specs.Ticks.{Ticked, tickEvent, tickedAt}
+use Rattle.calls.specs.Ticks.{Ticked, endEvent, tickEvent, tickedAt}
 use Rattle.calls.proofs.Plugs.{bad-argument}
 use Rattle.model.specs.Proof.Stays.{tick-ok}
 
 -- 1. One index ------------------------------------------------------------------------------------------------------------------------------------
 
--- a timer that ends owes New Settings, with the settings as its end leaves them
-event-due : (step i : ℕ) (c : Controller) → ends step (c .host .settings .timer) ≡ true
-    → tickEvent step i (some c) ≡ event Events.newSettings i (le32 (currentSettings (settingsOf (tick step c))))
-unfolding tickEvent
-event-due step i c e = rw (e, tickEvent)
-
--- one that does not end owes no event
-event-none : (step i : ℕ) (c : Controller) → ends step (c .host .settings .timer) ≡ false → tickEvent step i (some c) ≡ []
-unfolding tickEvent
-event-none step i c e = rw (e, tickEvent)
-
 -- a write of no octets leaves the reply as it was
 nothing-written : (d : Octets) (at : ℕ) → d ≡ writeAt d at []
 unfolding writeAt
 nothing-written d at = refl
+
+-- a schedule that stays tells of no instance
+none-gone : (i : ℕ) (t : Schedule) → removedOf i t t instances ≡ []
+unfolding advertisingRemoved
+none-gone i t = none-removed i (record { schedule = t; advData = []; scanRsp = [] })
 
 -- nothing stands there
 pub tick-absent : (s : Octets) (step i place : ℕ) (d : Octets) → stateOk s ≡ true → i < 4 → presentAt s i ≡ false → Ticked s step i place place d d s
@@ -70,23 +72,98 @@ tick-absent s step i place d ok l e =
       reply = rw (a, tickEvent) (nothing-written d place);
     }
 
-module _ (s : Octets) (step i place : ℕ) (d d′ s′ : Octets) (g : Ready s i) (m k : Settings) (t u : Timer) (b : Bool)
-    (em : m ≡ settingsOf (controllerOf s i)) (et : t ≡ m .host .timer)
-    (eb : b ≡ ends step t) (eu : u ≡ countdown step t) (ek : k ≡ settingsTimer m u)
-    (put : s′ ≡ encode (putController (decode s) i (withSettings (controllerOf s i) k))) where
+-- the schedule at a present index keeps its rules
+pub sound : (s : Octets) (i : ℕ) → Ready s i → (was : Schedule) → was ≡ controllerOf s i .host .advertising .schedule → Sound was
+sound s i g was es = rw es (sound-of _ _ (controllerOf s i .host .advertising .schedule) (advertising-fit _ _ _ (advertising-fine s i g) .schedule))
+
+-- New Settings is 10 octets long
+pub end-told : (i : ℕ) (m : Settings) (b : Bool) (w place : ℕ) (d d′ : Octets) → b ≡ true → w ≡ currentSettings m
+    → d′ ≡ writeAt d place (event Events.newSettings i (le32 w))
+    → (place + 10 ≤ place + 10) × (place + 10 ≡ place + length (endEvent b i m)) × (d′ ≡ writeAt d place (endEvent b i m))
+unfolding endEvent
+end-told i m b w place d d′ e ew wr =
+    let l = length-new-settings i (currentSettings m) in
+    rw e (omega arith, omega arith, rw (← ew) wr)
+
+-- a timer that runs on, or none, is not told
+pub end-untold : (i : ℕ) (m : Settings) (b : Bool) (place : ℕ) (d : Octets) → b ≡ false
+    → (place ≤ place + 10) × (place ≡ place + length (endEvent b i m)) × (d ≡ writeAt d place (endEvent b i m))
+unfolding endEvent
+end-untold i m b place d e = rw e (omega arith, omega arith, nothing-written d place)
+
+-- a timer that does not run is left as it is
+still : (step : ℕ) (t : Timer) → t .seconds ≡ 0 → countdown step t ≡ t
+unfolding countdown ends
+still step t e =
+    let n : t .seconds - step ≡ t .seconds = omega arith in
+    rw (e, countdown, ← e, n)
+
+-- and ends with no step
+no-end : (step : ℕ) (t : Timer) → t .seconds ≡ 0 → ends step t ≡ false
+unfolding ends
+no-end step t e = rw e
+
+-- a controller that no timer runs for, and that the step leaves as it is, owes no event
+nothing-due : (step i : ℕ) (c : Controller) → c .host .settings .timer .seconds ≡ 0 → tick step c ≡ c → tickEvent step i (some c) ≡ []
+unfolding tickEvent endEvent
+nothing-due step i c n x = rw (no-end step (c .host .settings .timer) n, endEvent, x, none-removed i (c .host .advertising))
+
+-- the settings that are there anyway
+settings-same : (c : Controller) → withSettings c (settingsTimer (settingsOf c) (c .host .settings .timer)) ≡ c
+unfolding withSettings settingsTimer settingsOf
+settings-same c = refl
+
+module _ (s : Octets) (step i place : ℕ) (g : Ready s i) (m : Settings) (em : m ≡ settingsOf (controllerOf s i)) where
   -- the timer that was read is the controller's
-  timer-is : t ≡ controllerOf s i .host .settings .timer
+  timer-is : m .host .timer ≡ controllerOf s i .host .settings .timer
   unfolding settingsOf
-  timer-is = et ∙ rw em
+  timer-is = rw em
 
-  -- the settings with that timer counted down are those of the controller ticked
+  -- where none is on air, only the timer is counted down
+  rests : controllerOf s i .host .advertising .schedule .onAir ≡ 0
+      → withSettings (controllerOf s i) (settingsTimer (settingsOf (controllerOf s i)) (countdown step (controllerOf s i .host .settings .timer)))
+      ≡ tick step (controllerOf s i)
+  unfolding withTurns withSettings withHost withSchedule withAdvertising
+  rests z =
+      let a = controllerOf s i .host .advertising in
+      let q : rescheduled a (seconds step (a .schedule)) ≡ a = rw (seconds-rest step (a .schedule) z) (rescheduled-same _ _ a (advertising-fine s i g)) in
+      sym (tick-only step (controllerOf s i) ∙ rw q)
+
+  -- none is on air and no timer runs: nothing changes, and nothing is due
+  pub tick-still : (d : Octets) → controllerOf s i .host .advertising .schedule .onAir ≡ 0 → m .host .timer .seconds ≡ 0 → Ticked s step i place place d d s
+  unfolding tickedAt tickSlot withController
+  tick-still d z e =
+      let c = controllerOf s i in
+      let n : c .host .settings .timer .seconds ≡ 0 = rw (← timer-is) e in
+      let x : tick step c ≡ c = sym (rests z) ∙ rw (still step (c .host .settings .timer) n) (settings-same c) in
+      let a : getD (decode s .plain .controllers) i none ≡ some c = present-slot s i (g .here) in
+      record {
+        hub = rw (a, tickSlot, x) (rw (← a, set-getD));
+        ok = g .ok;
+        long = g .long;
+        far = omega arith;
+        count = rw (a, nothing-due step i c n x) (omega arith);
+        reply = rw (a, nothing-due step i c n x) (nothing-written d place);
+      }
+
+module _ (s : Octets) (step i place : ℕ) (g : Ready s i) (m k : Settings)
+    (em : m ≡ settingsOf (controllerOf s i)) (ek : k ≡ settingsTimer m (countdown step (m .host .timer))) where
+  -- the settings with the timer counted down are those of the controller ticked
   settings-are : k ≡ settingsOf (tick step (controllerOf s i))
-  unfolding settingsOf settingsTimer tick withHost withTimer
-  settings-are = ek ∙ rw (eu, timer-is, em)
+  unfolding settingsOf settingsTimer tick withHost withTimer withSchedule withAdvertising
+  settings-are = ek ∙ rw em
 
-  -- so the state written is that of the hub with the controller ticked
-  state-is : s′ ≡ encode (putController (decode s) i (tick step (controllerOf s i)))
-  state-is = put ∙ rw (ek, eu, timer-is, em, tick-only step (controllerOf s i))
+  -- what is due, of what was read
+  event-is : (was : Schedule) → was ≡ controllerOf s i .host .advertising .schedule
+      → tickEvent step i (some (controllerOf s i)) ≡ endEvent (ends step (m .host .timer)) i k ++ removedOf i was (seconds step was) instances
+  unfolding tickEvent tick withHost withSchedule withAdvertising rescheduled advertisingRemoved
+  event-is was es = rw (timer-is s step i place g m em, settings-are, es)
+
+  -- the controller ticked, of what was read
+  ticked-is : (was : Schedule) → was ≡ controllerOf s i .host .advertising .schedule
+      → withTurns (withSettings (controllerOf s i) k) (seconds step was) ≡ tick step (controllerOf s i)
+  unfolding settingsOf
+  ticked-is was es = rw (ek, em, es, tick-only step (controllerOf s i))
 
   -- the ticked controller is valid
   fine : controllerOk (tick step (controllerOf s i)) ≡ true
@@ -95,45 +172,62 @@ module _ (s : Octets) (step i place : ℕ) (d d′ s′ : Octets) (g : Ready s i
   -- and the open command at its index, if there is one, would still be started
   beside : openOk (some (tick step (controllerOf s i))) (openAt s i) ≡ true
   unfolding tick
-  beside = host-fine s i g (withTimer (controllerOf s i .host) (countdown step (controllerOf s i .host .settings .timer)))
+  beside = host-fine s i g _
 
-  -- so the state written means the hub with the timer at index i counted down
-  hub-is : decode s′ ≡ tickedAt step i (decode s)
-  unfolding tickedAt tickSlot putController
-  hub-is = rw (state-is, controller-decoded s i g (tick step (controllerOf s i)) fine beside, present-slot s i (g .here))
+  module _ (s′ : Octets) (put : s′ ≡ encode (putController (decode s) i (tick step (controllerOf s i)))) where
+    -- the state written means the hub with the controller at index i ticked
+    hub-is : decode s′ ≡ tickedAt step i (decode s)
+    unfolding tickedAt tickSlot putController
+    hub-is = rw (put, controller-decoded s i g (tick step (controllerOf s i)) fine beside, present-slot s i (g .here))
 
-  -- it is well formed, and index i is present in it
-  well : Ready s′ i
-  well = rw state-is (controller-ready s i g (tick step (controllerOf s i)) fine beside)
+    -- it is well formed, and index i is present in it
+    well : Ready s′ i
+    well = rw put (controller-ready s i g (tick step (controllerOf s i)) fine beside)
 
-  -- the timer ends: New Settings
-  pub tick-ends : (w : ℕ) → b ≡ true → w ≡ currentSettings k → d′ ≡ writeAt d place (event Events.newSettings i (le32 w))
-      → Ticked s step i place (place + 10) d d′ s′
-  tick-ends w e ew wr =
-      let x : tickEvent step i (some (controllerOf s i)) ≡ event Events.newSettings i (le32 w) = event-due step i (controllerOf s i)
-      (rw (← timer-is) (sym eb ∙ e)) ∙ rw (ew, settings-are) in
-      let l = length-new-settings i w in
-      record {
-        hub = hub-is;
-        ok = well .ok;
-        long = well .long;
-        far = omega arith;
-        count = rw (present-slot s i (g .here), x, l);
-        reply = rw (present-slot s i (g .here), x) wr;
-      }
+    -- with what is due written
+    ticked : (r : ℕ) (o d d′ : Octets) → tickEvent step i (some (controllerOf s i)) ≡ o → r ≡ place + length o → r ≤ place + 45 → d′ ≡ writeAt d place o
+        → Ticked s step i place r d d′ s′
+    ticked r o d d′ x n f w = record {
+      hub = hub-is;
+      ok = well .ok;
+      long = well .long;
+      far = f;
+      count = rw (present-slot s i (g .here), x) n;
+      reply = rw (present-slot s i (g .here), x) w;
+    }
 
-  -- it runs on, or none runs
-  pub tick-on : b ≡ false → Ticked s step i place place d d s′
-  tick-on e =
-      let x : tickEvent step i (some (controllerOf s i)) ≡ [] = event-none step i (controllerOf s i) (rw (← timer-is) (sym eb ∙ e)) in
-      record {
-        hub = hub-is;
-        ok = well .ok;
-        long = well .long;
-        far = omega arith;
-        count = rw (present-slot s i (g .here), x) (omega arith);
-        reply = rw (present-slot s i (g .here), x) (nothing-written d place);
-      }
+  -- none is on air: only the timer may end
+  pub tick-rests : (s′ d d′ : Octets) (r : ℕ) → controllerOf s i .host .advertising .schedule .onAir ≡ 0
+      → s′ ≡ encode (putController (decode s) i (withSettings (controllerOf s i) k))
+      → (r ≤ place + 10) × (r ≡ place + length (endEvent (ends step (m .host .timer)) i k))
+      × (d′ ≡ writeAt d place (endEvent (ends step (m .host .timer)) i k)) → Ticked s step i place r d d′ s′
+  unfolding settingsOf
+  tick-rests s′ d d′ r z put w =
+      let t = controllerOf s i .host .advertising .schedule in
+      let o = endEvent (ends step (m .host .timer)) i k in
+      let x : o ++ removedOf i t (seconds step t) instances ≡ o = rw (seconds-rest step t z, none-gone i t, append-nil) in
+      let y : withSettings (controllerOf s i) k ≡ tick step (controllerOf s i) = rw (ek, em) (rests s step i place g m em z) in
+      let l = w .0 in
+      ticked s′ (put ∙ rw y) r o d d′ (event-is t refl ∙ x) (w .1) (omega arith) (w .2)
+
+  -- one is on air: the seconds pass, and instances may go
+  pub tick-turned : (was : Schedule) (s′ d d₁ d′ : Octets) (next : Schedule) (q r : ℕ) → was ≡ controllerOf s i .host .advertising .schedule
+      → next ≡ seconds step was → s′ ≡ encode (putController (decode s) i (withTurns (withSettings (controllerOf s i) k) next))
+      → (q ≤ place + 10) × (q ≡ place + length (endEvent (ends step (m .host .timer)) i k))
+      × (d₁ ≡ writeAt d place (endEvent (ends step (m .host .timer)) i k))
+      → (length (removedOf i was next instances) ≤ 35) × (r ≡ q + length (removedOf i was next instances))
+      × (d′ ≡ writeAt d₁ q (removedOf i was next instances))
+      → Ticked s step i place r d d′ s′
+  tick-turned was s′ d d₁ d′ next q r es en put w v =
+      let o = endEvent (ends step (m .host .timer)) i k in
+      let p = removedOf i was next instances in
+      let f = w .0 in
+      let n = w .1 in
+      let h = v .0 in
+      let e = v .1 in
+      let l = length-append o p in
+      let x : d′ ≡ writeAt d place (o ++ p) = v .2 ∙ rw (w .2) (then d place o p q (sym n)) in
+      ticked s′ (put ∙ rw (en, ticked-is was es)) r (o ++ p) d d′ (event-is was es ∙ rw en) (omega arith) (omega arith) x
 
 -- 2. All four -------------------------------------------------------------------------------------------------------------------------------------
 
@@ -160,9 +254,12 @@ clock-late s last step reading d r ok el es h n =
 -- the events, index after index
 events-step : (step i : ℕ) (x : Option Controller) (cs : List (Option Controller))
     → tickEvents step i (x ∷ cs) ≡ tickEvent step i x ++ tickEvents step (suc i) cs
-unfolding tickEvents tickEvent
+unfolding tickEvents tickEvent endEvent
 events-step step i none cs = refl
-events-step step i (some c) cs = refl
+events-step step i (some c) cs =
+    sym
+    (append-assoc (endEvent (ends step (c .host .settings .timer)) i (settingsOf (tick step c)))
+    (advertisingRemoved i (c .host .advertising) (tick step c .host .advertising)) (tickEvents step (suc i) cs))
 
 -- so those of four indexes stand one behind the other, ascending
 events-four : (step : ℕ) (w x y z : Option Controller)

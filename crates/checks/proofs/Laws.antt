@@ -35,6 +35,7 @@ use Rattle.rules.specs.declared.Decision.{Decision}
 use Rattle.rules.specs.Decisions.{decision, isStarted, settingsOk}
 use Rattle.checks.proofs.Tests.{and-on}
 use Rattle.checks.specs.Settings.{flagsOctetsOk}
+use Rattle.checks.specs.Advertising.{advertisingOctetsOk}
 use Rattle.checks.specs.Present.{blockAt, controllerOctetsOk}
 use Rattle.checks.proofs.Slots.{zero-rest}
 use Rattle.checks.specs.Tables.{tableOctetsOk, tablesOctetsOk}
@@ -52,7 +53,7 @@ pub ruleset tests = (eq-eqb, ne-eqb, le-leb, lt-leb, le-ltb, lt-ltb)
 -- 1. Zeros ------------------------------------------------------------------------------------------------------------------------------------
 
 -- two octets joined by or are zero if both are
-or-zero : (a b : ℕ) → eqb (bitOr a b) 0 ≡ eqb a 0 && eqb b 0
+pub or-zero : (a b : ℕ) → eqb (bitOr a b) 0 ≡ eqb a 0 && eqb b 0
 or-zero a b = go (eqb a 0) refl
   where
     go : (x : Bool) → eqb a 0 ≡ x → eqb (bitOr a b) 0 ≡ x && eqb b 0
@@ -280,7 +281,8 @@ pub fine-by : (s : Octets) (i b : ℕ) (m : Settings) → b ≡ base i → m ≡
     && (nameOk (controllerOf s i .host .name)
     && (flagsOctetsOk s b
     && (openOctetsOk (m .radio) (u16 s (b + 1)) (part s (b + 1 + 2) 3)
-    && tablesOctetsOk (m .radio .hardware) tableRules s (b + 292)))))
+    && (tablesOctetsOk (m .radio .hardware) tableRules s (b + 292)
+    && advertisingOctetsOk (m .radio .lowEnergy) (m .radio .powered) s (b + 4028))))))
 unfolding controllerOctetsOk settingsOf
 fine-by s i b m e f = rw (e, f)
 

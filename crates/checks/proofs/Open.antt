@@ -243,7 +243,22 @@ quiet code n5 n6 n7 n13 = (
                               (
                                 inr
                                     (λ x ps. refl),
-                                (inr (λ x ps. refl), (inr static-acts, (inr (λ x ps. refl), (inr (λ x ps. refl), (inr (λ x ps. refl), tt))))),
+                                (
+                                  inr (λ x ps. refl),
+                                  (
+                                    inr static-acts,
+                                    (
+                                      inr (λ x ps. refl),
+                                      (
+                                        inr (λ x ps. refl),
+                                        (
+                                          inr (λ x ps. refl),
+                                          (inr (λ x ps. refl), (inr (λ x ps. refl), tt)),
+                                        ),
+                                      ),
+                                    ),
+                                  ),
+                                ),
                               ),
                             ),
                           ),

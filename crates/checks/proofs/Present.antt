@@ -1,5 +1,5 @@
 -- The block of a present controller: the test over its octets is the model's.
-use Prim.Native.Nat.{ℕ, _+_, _<_, _≤_}
+use Prim.Native.Nat.{ℕ, suc, _+_, _<_, _≤_}
 use native.Mathlib.Omega.{arith}
 use native.Mathlib.Nat.{add-zero}
 use mathlib.Core.Path.{_≡_, refl, sym, ap, _∙_}
@@ -16,9 +16,9 @@ use Rattle.model.specs.Octets.{Octets, allZero, bytes, same, u16}
 use Rattle.model.specs.State.{Controller, OpenCommand, settingsOf}
 use Rattle.model.specs.Tables.{tableRules}
 use Rattle.model.specs.Image.{nameOk, radioOk}
-use Rattle.model.specs.WellFormed.{controllerOk, openOk, slotOk, tablesOk, widthsOk}
+use Rattle.model.specs.WellFormed.{advertisingOk, controllerOk, openOk, slotOk, tablesOk, widthsOk}
 use Rattle.model.specs.Layout.{block, controllerBack, controllerIn, controllerPart, hardwarePart, openBack, openIn, openPart, openWith, regions}
-use Rattle.model.specs.Layout.{settingsPart, tablesBack}
+use Rattle.model.specs.Layout.{advertisingPart, settingsPart, tablesBack}
 use Rattle.model.specs.Meanings.{stateOk}
 use Rattle.model.specs.Proof.Parts.{fit-widths}
 use Rattle.model.specs.Proof.Layout.{length-open}
@@ -34,11 +34,13 @@ use Rattle.checks.proofs.Tests.{and-on, one-test, part-bytes, same-appe
 use Rattle.checks.specs.Blocks.{blockOk}
 use Rattle.checks.proofs.Blocks.{blocksOk, state-blocks}
 use Rattle.checks.specs.Tables.{tablesOctetsOk}
-use Rattle.checks.proofs.Tables.{drop-part, tables-are, total-six}
+use Rattle.checks.proofs.Tables.{drop-part, length-regions, tables-are, tables-cut, total-six}
 use Rattle.checks.specs.Open.{openOctetsOk}
 use Rattle.checks.proofs.Open.{open-is}
 use Rattle.checks.specs.Settings.{flagsOctetsOk}
 use Rattle.checks.proofs.Settings.{hardware-same, one-octet, part-cut, settings-long, settings-same}
+use Rattle.checks.specs.Advertising.{advertisingOctetsOk}
+use Rattle.checks.proofs.AdvertisingParts.{advertising-at, advertising-is}
 use Rattle.checks.specs.Present.{blockAt, controllerOctetsOk}
 
 -- 1. The first octet ----------------------------------------------------------------------------------------------------------------------------
@@ -65,55 +67,68 @@ absent-block s i h n =
 
 -- a present block in its parts
 cut-block : (s : Octets) (b : ℕ) → b < length s → getD s b 0 ≡ 1
-    → part s b Lengths.block ≡ 1 ∷ (part s (b + 1) 5 ++ (part s (b + 6) 13 ++ (part s (b + 19) 13 ++ (part s (b + 32) 260 ++ part s (b + 292) 3736))))
+    → part s b Lengths.block ≡ 1 ∷ (part s (b + 1) 5 ++ (part s (b + 6) 13 ++ (part s (b + 19) 13 ++ (part s (b + 32) 260
+    ++ (part s (b + 292) 3736 ++ part s (b + 4028) 343)))))
 cut-block s b h e = rw (
-  part-cut s b 1 4027 (b + 1) Lengths.block refl refl,
-  part-cut s (b + 1) 5 4022 (b + 6) 4027 (omega arith) refl,
-  part-cut s (b + 6) 13 4009 (b + 19) 4022 (omega arith) refl,
-  part-cut s (b + 19) 13 3996 (b + 32) 4009 (omega arith) refl,
-  part-cut s (b + 32) 260 3736 (b + 292) 3996 (omega arith) refl,
+  part-cut s b 1 4370 (b + 1) Lengths.block refl refl,
+  part-cut s (b + 1) 5 4365 (b + 6) 4370 (omega arith) refl,
+  part-cut s (b + 6) 13 4352 (b + 19) 4365 (omega arith) refl,
+  part-cut s (b + 19) 13 4339 (b + 32) 4352 (omega arith) refl,
+  part-cut s (b + 32) 260 4079 (b + 292) 4339 (omega arith) refl,
+  part-cut s (b + 292) 3736 343 (b + 4028) 4079 (omega arith) refl,
   one-octet s b h,
   e,
 )
 
 -- compared part by part
-pieces-same : (a b c d e p q r s t : Octets) → length a ≡ length p → length b ≡ length q → length c ≡ length r → length d ≡ length s
-    → same (1 ∷ (a ++ (b ++ (c ++ (d ++ e))))) (1 ∷ (p ++ (q ++ (r ++ (s ++ t))))) ≡ same a p && (same b q && (same c r && (same d s && same e t)))
+pieces-same : (a b c d e f p q r s t u : Octets) → length a ≡ length p → length b ≡ length q → length c ≡ length r → length d ≡ length s → length e ≡ length t
+    → same (1 ∷ (a ++ (b ++ (c ++ (d ++ (e ++ f)))))) (1 ∷ (p ++ (q ++ (r ++ (s ++ (t ++ u))))))
+    ≡ same a p && (same b q && (same c r && (same d s && (same e t && same f u))))
 unfolding same
-pieces-same a b c d e p q r s t f g h i =
-    same-append a (b ++ (c ++ (d ++ e))) p (q ++ (r ++ (s ++ t))) f
-    ∙ rw (same-append b (c ++ (d ++ e)) q (r ++ (s ++ t)) g, same-append c (d ++ e) r (s ++ t) h, same-append d e s t i)
+pieces-same a b c d e f p q r s t u g h i j k =
+    same-append a (b ++ (c ++ (d ++ (e ++ f)))) p (q ++ (r ++ (s ++ (t ++ u)))) g
+    ∙ rw (
+      same-append b (c ++ (d ++ (e ++ f))) q (r ++ (s ++ (t ++ u))) h,
+      same-append c (d ++ (e ++ f)) r (s ++ (t ++ u)) i,
+      same-append d (e ++ f) s (t ++ u) j,
+      same-append e f t u k,
+    )
 
 -- the three octets for parameters, cut from all that follow in the block
-take-three : (s : Octets) (at : ℕ) → take 3 (part s at 4025) ≡ part s at 3
+take-three : (s : Octets) (at : ℕ) → take 3 (part s at 4368) ≡ part s at 3
 unfolding part
-take-three s at = take-take 3 4025 (drop at s) (omega arith)
+take-three s at = take-take 3 4368 (drop at s) (omega arith)
 
 -- the tests of a block in the order in which they are made
-gather : (r n t z o c f g : Bool) → (r && (n && (t && z))) && (o && (c && (f && g))) ≡ r && (z && (n && (f && ((o && c) && (t && g)))))
-gather r n t z o c f g = one-test _ _ down up
+gather : (r n t z v o c f g h : Bool)
+    → (r && (n && (t && (z && v)))) && (o && (c && (f && (g && h)))) ≡ r && (z && (n && (f && ((o && c) && ((t && g) && (v && h))))))
+gather r n t z v o c f g h = one-test _ _ down up
   where
-    down : (r && (n && (t && z))) && (o && (c && (f && g))) ≡ true → r && (z && (n && (f && ((o && c) && (t && g))))) ≡ true
+    down : (r && (n && (t && (z && v)))) && (o && (c && (f && (g && h)))) ≡ true → r && (z && (n && (f && ((o && c) && ((t && g) && (v && h)))))) ≡ true
     down e =
-        let a = and-true (r && (n && (t && z))) _ e in
+        let a = and-true (r && (n && (t && (z && v)))) _ e in
         let a1 = and-true r _ (a .0) in
         let a2 = and-true n _ (a1 .1) in
         let a3 = and-true t _ (a2 .1) in
+        let a4 = and-true z _ (a3 .1) in
         let b1 = and-true o _ (a .1) in
         let b2 = and-true c _ (b1 .1) in
         let b3 = and-true f _ (b2 .1) in
-        both (a1 .0) (both (a3 .1) (both (a2 .0) (both (b3 .0) (both (both (b1 .0) (b2 .0)) (both (a3 .0) (b3 .1))))))
+        let b4 = and-true g _ (b3 .1) in
+        both (a1 .0) (both (a4 .0) (both (a2 .0) (both (b3 .0) (both (both (b1 .0) (b2 .0)) (both (both (a3 .0) (b4 .0)) (both (a4 .1) (b4 .1)))))))
 
-    up : r && (z && (n && (f && ((o && c) && (t && g))))) ≡ true → (r && (n && (t && z))) && (o && (c && (f && g))) ≡ true
+    up : r && (z && (n && (f && ((o && c) && ((t && g) && (v && h)))))) ≡ true → (r && (n && (t && (z && v)))) && (o && (c && (f && (g && h)))) ≡ true
     up e =
         let a = and-true r _ e in
         let b = and-true z _ (a .1) in
         let d = and-true n _ (b .1) in
-        let h = and-true f _ (d .1) in
-        let i = and-true (o && c) _ (h .1) in
-        let j = and-true o _ (i .0) in
-        let k = and-true t _ (i .1) in
-        both (both (a .0) (both (d .0) (both (k .0) (b .0)))) (both (j .0) (both (j .1) (both (h .0) (k .1))))
+        let i = and-true f _ (d .1) in
+        let j = and-true (o && c) _ (i .1) in
+        let k = and-true o _ (j .0) in
+        let l = and-true (t && g) _ (j .1) in
+        let m = and-true t _ (l .0) in
+        let p = and-true v _ (l .1) in
+        both (both (a .0) (both (d .0) (both (m .0) (both (b .0) (p .0))))) (both (k .0) (both (k .1) (both (i .0) (both (m .1) (p .1)))))
 
 -- the name lies 32 octets into a block
 pub place-name : (i : ℕ) → placeOf i 4 ≡ base i + 32
@@ -125,16 +140,27 @@ module _ (s : Octets) (i : ℕ) (w : bytes s ≡ true) (h : base i + Lengths.blo
   tables-here : controllerOf s i .host .tables ≡ tablesBack tableRules (part s (base i + 292) 3736)
   unfolding controllerOf controllerBack
   tables-here =
-      let d : drop 6 (blockAt s i) ≡ part s (base i + 6) 4022 = drop-part s (base i) 6 4022 in
-      let e : drop 286 (part s (base i + 6) 4022) ≡ part s (base i + 6 + 286) 3736 = drop-part s (base i + 6) 286 3736 in
+      let d : drop 6 (blockAt s i) ≡ part s (base i + 6) 4365 = drop-part s (base i) 6 4365 in
+      let e : drop 286 (part s (base i + 6) 4365) ≡ part s (base i + 6 + 286) 4079 = drop-part s (base i + 6) 286 4079 in
       let f : base i + 6 + 286 ≡ base i + 292 = omega arith in
-      rw (d, e, f)
+      rw (d, e, f) (rw total-six at (tables-cut tableRules s (base i + 292) 343))
 
   -- they are well formed, and their octets the one encoding of them
   tables-fine : tablesOk (controllerOf s i .radio .hardware) tableRules (controllerOf s i .host .tables)
       && same (part s (base i + 292) 3736) (regions tableRules (controllerOf s i .host .tables))
       ≡ tablesOctetsOk (controllerOf s i .radio .hardware) tableRules s (base i + 292)
   tables-fine = rw tables-here (rw total-six at (tables-are (controllerOf s i .radio .hardware) tableRules s (base i + 292) w (rw total-six (omega arith))))
+
+  -- as they are laid out, they take 3,736 octets
+  tables-long : length (regions tableRules (controllerOf s i .host .tables)) ≡ 3736
+  tables-long = rw tables-here (rw total-six at (length-regions tableRules s (base i + 292) (rw total-six (omega arith))))
+
+  -- advertising is well formed, and its octets the one encoding of it
+  advertising-fine : advertisingOk (controllerOf s i .radio .lowEnergy) (controllerOf s i .radio .powered) (controllerOf s i .host .advertising)
+      && same (part s (base i + 4028) 343) (advertisingPart (controllerOf s i .host .advertising))
+      ≡ advertisingOctetsOk (controllerOf s i .radio .lowEnergy) (controllerOf s i .radio .powered) s (base i + 4028)
+  advertising-fine = rw (advertising-at s i)
+      (advertising-is (controllerOf s i .radio .lowEnergy) (controllerOf s i .radio .powered) s (base i + 4028) w (omega arith))
 
   -- what lies there is the controller's name
   name-here : part s (base i + 32) 260 ≡ controllerOf s i .host .name
@@ -167,9 +193,10 @@ module _ (s : Octets) (i : ℕ) (w : bytes s ≡ true) (h : base i + Lengths.blo
   -- so what is left of the test of a controller
   controller-is : controllerOk (controllerOf s i)
       ≡ radioOk (controllerOf s i .radio) && (nameOk (controllerOf s i .host .name)
-      && (tablesOk (controllerOf s i .radio .hardware) tableRules (controllerOf s i .host .tables) && settingsOk (settingsOf (controllerOf s i))))
+      && (tablesOk (controllerOf s i .radio .hardware) tableRules (controllerOf s i .host .tables) && (settingsOk (settingsOf (controllerOf s i))
+      && advertisingOk (controllerOf s i .radio .lowEnergy) (controllerOf s i .radio .powered) (controllerOf s i .host .advertising))))
   unfolding controllerOk
-  controller-is = rw (static-long, name-long, widths, timer-ok-is (controllerOf s i), and-on (settingsOk (settingsOf (controllerOf s i))))
+  controller-is = rw (static-long, name-long, widths, timer-ok-is (controllerOf s i))
 
   -- 3. The whole block ------------------------------------------------------------------------------------------------------------------------------
 
@@ -177,7 +204,8 @@ module _ (s : Octets) (i : ℕ) (w : bytes s ≡ true) (h : base i + Lengths.blo
   block-same : (o : Option OpenCommand) → getD s (base i) 0 ≡ 1
       → same (blockAt s i) (block (some (controllerOf s i)) o)
       ≡ same (part s (base i + 1) 5) (openPart o) && (flagsOctetsOk s (base i)
-      && same (part s (base i + 292) 3736) (regions tableRules (controllerOf s i .host .tables)))
+      && (same (part s (base i + 292) 3736) (regions tableRules (controllerOf s i .host .tables))
+      && same (part s (base i + 4028) 343) (advertisingPart (controllerOf s i .host .advertising))))
   unfolding block controllerPart
   block-same o e =
       let b : ℕ = base i in
@@ -190,20 +218,21 @@ module _ (s : Octets) (i : ℕ) (w : bytes s ≡ true) (h : base i + Lengths.blo
       let sl : length (settingsPart (settingsOf c)) ≡ 13 = ap (λ (m : Settings). length (settingsPart m)) (sym (settings-at s i))
       ∙ settings-long s b (c .radio .hardware) (omega arith) in
       rw (cut-block s b (omega arith) e)
-      (pieces-same (part s (b + 1) 5) (part s (b + 6) 13) (part s (b + 19) 13) (part s (b + 32) 260) (part s (b + 292) 3736) (openPart o) f
-      (settingsPart (settingsOf c)) n (regions tableRules (c .host .tables))
+      (pieces-same (part s (b + 1) 5) (part s (b + 6) 13) (part s (b + 19) 13) (part s (b + 32) 260) (part s (b + 292) 3736) (part s (b + 4028) 343)
+      (openPart o) f (settingsPart (settingsOf c)) n (regions tableRules (c .host .tables)) (advertisingPart (c .host .advertising))
       (length-part s (b + 1) 5 (omega arith) ∙ sym (length-open o)) (ap length hw) (length-part s (b + 19) 13 (omega arith) ∙ sym sl) (ap length name-here)
+      (length-part s (b + 292) 3736 (omega arith) ∙ sym tables-long)
       ∙ rw (hw, same-refl f, st, name-here, same-refl n))
 
   -- what is under way there
-  open-here : getD s (base i) 0 ≡ 1 → openIn (blockAt s i) ≡ openWith (u16 s (base i + 1)) (part s (base i + 1 + 2) 4025)
+  open-here : getD s (base i) 0 ≡ 1 → openIn (blockAt s i) ≡ openWith (u16 s (base i + 1)) (part s (base i + 1 + 2) 4368)
   unfolding openBack
   open-here e =
       let b : ℕ = base i in
       let p : eqb (getD (blockAt s i) 0 0) 1 ≡ true = rw (first-octet s i) (eq-eqb (getD s b 0) 1 e) in
-      let d : drop 1 (blockAt s i) ≡ part s (b + 1) 4027 = drop-part s b 1 4027 in
-      let f : drop 2 (part s (b + 1) 4027) ≡ part s (b + 1 + 2) 4025 = drop-part s (b + 1) 2 4025 in
-      let g : u16 (part s (b + 1) 4027) 0 ≡ u16 s (b + 1) = u16-part s (b + 1) 4027 0 (omega arith) ∙ rw add-zero in
+      let d : drop 1 (blockAt s i) ≡ part s (b + 1) 4370 = drop-part s b 1 4370 in
+      let f : drop 2 (part s (b + 1) 4370) ≡ part s (b + 1 + 2) 4368 = drop-part s (b + 1) 2 4368 in
+      let g : u16 (part s (b + 1) 4370) 0 ≡ u16 s (b + 1) = u16-part s (b + 1) 4370 0 (omega arith) ∙ rw add-zero in
       open-some (blockAt s i) p ∙ rw (d, f, g)
 
   -- the controller of a present block is the one at its index
@@ -212,31 +241,48 @@ module _ (s : Octets) (i : ℕ) (w : bytes s ≡ true) (h : base i + Lengths.blo
   controller-here e = controller-some (blockAt s i) (rw (first-octet s i) (eq-eqb (getD s (base i) 0) 1 e))
 
   -- and it would be started, or all is zero
-  open-fine : (c : Controller) → openOk (some c) (openWith (u16 s (base i + 1)) (part s (base i + 1 + 2) 4025))
-      && same (part s (base i + 1) 5) (openPart (openWith (u16 s (base i + 1)) (part s (base i + 1 + 2) 4025)))
+  open-fine : (c : Controller) → openOk (some c) (openWith (u16 s (base i + 1)) (part s (base i + 1 + 2) 4368))
+      && same (part s (base i + 1) 5) (openPart (openWith (u16 s (base i + 1)) (part s (base i + 1 + 2) 4368)))
       ≡ openOctetsOk (c .radio) (u16 s (base i + 1)) (part s (base i + 1 + 2) 3)
-  open-fine c = open-is c s (base i + 1) (part s (base i + 1 + 2) 4025) w (part-bytes s (base i + 1 + 2) 4025 w) (omega arith) (take-three s (base i + 1 + 2))
+  open-fine c = open-is c s (base i + 1) (part s (base i + 1 + 2) 4368) w (part-bytes s (base i + 1 + 2) 4368 w) (omega arith) (take-three s (base i + 1 + 2))
 
   -- the test of a present block
   pub present-block : getD s (base i) 0 ≡ 1 → controllerOctetsOk s i ≡ blockOk (blockAt s i)
   unfolding blockOk slotOk controllerOctetsOk
   present-block e =
       let c : Controller = controllerOf s i in
-      let o : Option OpenCommand = openWith (u16 s (base i + 1)) (part s (base i + 1 + 2) 4025) in
+      let o : Option OpenCommand = openWith (u16 s (base i + 1)) (part s (base i + 1 + 2) 4368) in
       sym (rw (controller-here e, open-here e, controller-is, block-same o e)
       (gather (radioOk (c .radio)) (nameOk (c .host .name)) (tablesOk (c .radio .hardware) tableRules (c .host .tables)) (settingsOk (settingsOf c))
-      (openOk (some c) o) (same (part s (base i + 1) 5) (openPart o)) (flagsOctetsOk s (base i))
-      (same (part s (base i + 292) 3736) (regions tableRules (c .host .tables)))
-      ∙ rw (open-fine c, tables-fine)))
+      (advertisingOk (c .radio .lowEnergy) (c .radio .powered) (c .host .advertising)) (openOk (some c) o) (same (part s (base i + 1) 5) (openPart o))
+      (flagsOctetsOk s (base i)) (same (part s (base i + 292) 3736) (regions tableRules (c .host .tables)))
+      (same (part s (base i + 4028) 343) (advertisingPart (c .host .advertising)))
+      ∙ rw (open-fine c, tables-fine, advertising-fine)))
 
 -- 3. The whole state -----------------------------------------------------------------------------------------------------------------------------
+
+-- a block, and those behind it
+next-block : (n : ℕ) (o p : Octets) → drop Lengths.block o ≡ p → blocksOk (suc n) o ≡ blockOk (take Lengths.block o) && blocksOk n p
+unfolding blocksOk
+next-block n o p e = ap (λ (x : Octets). blockOk (take Lengths.block o) && blocksOk n x) e
+
+-- the last one
+last-block : (o : Octets) → blocksOk 1 o ≡ blockOk (take Lengths.block o)
+unfolding blocksOk
+last-block o = and-on (blockOk (take Lengths.block o))
+
+-- four blocks
+four-blocks : (o p q r : Octets) → drop Lengths.block o ≡ p → drop Lengths.block p ≡ q → drop Lengths.block q ≡ r
+    → blocksOk 4 o
+    ≡ blockOk (take Lengths.block o) && (blockOk (take Lengths.block p) && (blockOk (take Lengths.block q) && blockOk (take Lengths.block r)))
+four-blocks o p q r e f g = rw (next-block 3 o p e, next-block 2 p q f, next-block 1 q r g, last-block r)
 
 -- a state is well formed if it has the right length, and each of its four blocks is well formed
 pub state-is : (s : Octets) → bytes s ≡ true
     → stateOk s ≡ eqb (length s) Lengths.state && (blockOk (blockAt s 0) && (blockOk (blockAt s 1) && (blockOk (blockAt s 2) && blockOk (blockAt s 3))))
-unfolding part blocksOk
+unfolding part
 state-is s w =
-    let a : drop Lengths.block (drop 4 s) ≡ drop 4032 s = drop-drop Lengths.block 4 s in
-    let b : drop Lengths.block (drop 4032 s) ≡ drop 8060 s = drop-drop Lengths.block 4032 s in
-    let c : drop Lengths.block (drop 8060 s) ≡ drop 12088 s = drop-drop Lengths.block 8060 s in
-    state-blocks s w ∙ rw (a, b, c, and-on (blockOk (take Lengths.block (drop 12088 s))))
+    let a : drop Lengths.block (drop 4 s) ≡ drop 4375 s = drop-drop Lengths.block 4 s in
+    let b : drop Lengths.block (drop 4375 s) ≡ drop 8746 s = drop-drop Lengths.block 4375 s in
+    let c : drop Lengths.block (drop 8746 s) ≡ drop 13117 s = drop-drop Lengths.block 8746 s in
+    state-blocks s w ∙ rw (four-blocks (drop 4 s) (drop 4375 s) (drop 8746 s) (drop 13117 s) a b c)

@@ -6,7 +6,7 @@ use mathlib.Core.Path.{_≡_, refl, sym, ap, _∙_}
 use mathlib.Core.Bool.{Bool, true, false, _&&_}
 use mathlib.Core.List.{List, [], _∷_, _++_}
 use mathlib.Core.Option.{none, some}
-use lib.ListN.{length, take, drop}
+use lib.ListN.{length, take, drop, length-append}
 use lib.Seq.{drop-drop, take-take}
 use lib.Dec.{eqb}
 use Rattle.model.specs.declared.Hardware.{Hardware}
@@ -68,7 +68,7 @@ unfolding total tableRules uuidRule linkKeyRule longTermKeyRule identityKeyRule 
 total-six = refl
 
 -- records cut from octets, and from as many of them as they need or more
-chop-take : (size n m : ℕ) (o : Octets) → chop size n (take (size * n + m) o) ≡ chop size n o
+pub chop-take : (size n m : ℕ) (o : Octets) → chop size n (take (size * n + m) o) ≡ chop size n o
 unfolding chop
 chop-take size zero m o = refl
 chop-take size (suc n) m o =
@@ -88,8 +88,36 @@ table-in s at size m =
     let d : drop 4 (part s at (4 + size * 32 + m)) ≡ take (size * 32 + m) (drop (at + 4) s) = rw e (behind-word s at (size * 32 + m)) in
     rw (u32-part s at (4 + size * 32 + m) (omega arith), d, chop-take size 32 m (drop (at + 4) s))
 
+-- the tables of a part, with other octets behind them
+pub tables-cut : (us : List TableRule) (s : Octets) (at m : ℕ) → tablesBack us (part s at (total us + m)) ≡ tablesBack us (part s at (total us))
+unfolding tablesBack total
+tables-cut [] s at m = refl
+tables-cut (u ∷ us) s at m =
+    let n : ℕ = 4 + u .size * 32 in
+    let e : n + total us + m ≡ n + (total us + m) = omega arith in
+    rw (
+      e,
+      table-in s at (u .size) (total us + m),
+      table-in s at (u .size) (total us),
+      drop-part s at n (total us + m),
+      drop-part s at n (total us),
+      tables-cut us s (at + n) m,
+    )
+
+-- as they are laid out, they take as many octets as they lie in
+pub length-regions : (us : List TableRule) (s : Octets) (at : ℕ) → at + total us ≤ length s
+    → length (regions us (tablesBack us (part s at (total us)))) ≡ total us
+unfolding tablesBack total regions
+length-regions [] s at h = refl
+length-regions (u ∷ us) s at h =
+    let n : ℕ = 4 + u .size * 32 in
+    let t : Table = tableAt s at (u .size) in
+    let z : length (region (u .size) t) ≡ n = length-region (u .size) t (sized-at s at (u .size) (omega arith)) (length-table s at (u .size)) in
+    rw (table-in s at (u .size) (total us), drop-part s at n (total us))
+    (simp length-append (omega (arith, length-regions us s (at + n) (omega arith))))
+
 -- the tests of meanings and the tests of octets, sorted by table: the first one's, then those of the rest
-swap : (a t c r : Bool) → (a && t) && (c && r) ≡ (a && c) && (t && r)
+pub swap : (a t c r : Bool) → (a && t) && (c && r) ≡ (a && c) && (t && r)
 swap true true c r = refl
 swap true false true r = refl
 swap true false false r = refl
@@ -101,7 +129,7 @@ assoc true b c = refl
 assoc false b c = refl
 
 -- where there are no tables, there is nothing to compare
-no-octets : (s : Octets) (at : ℕ) → same (part s at 0) [] ≡ true
+pub no-octets : (s : Octets) (at : ℕ) → same (part s at 0) [] ≡ true
 unfolding same part
 no-octets s at = refl
 

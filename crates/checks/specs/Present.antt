@@ -12,6 +12,7 @@ use Rattle.rules.specs.Decisions.{settingsOk}
 use Rattle.checks.specs.Tables.{tablesOctetsOk}
 use Rattle.checks.specs.Open.{openOctetsOk}
 use Rattle.checks.specs.Settings.{flagsOctetsOk}
+use Rattle.checks.specs.Advertising.{advertisingOctetsOk}
 
 -- the octets of block i
 abbrev pub blockAt : Octets → ℕ → Octets
@@ -19,7 +20,7 @@ blockAt s i = part s (base i) Lengths.block
 
 -- 1. A present controller's parts -----------------------------------------------------------------------------------------------------------------
 
--- the block of a present index is well formed: radio settings, settings, name, flags, open command, tables
+-- the block of a present index is well formed: radio settings, settings, name, flags, open command, tables, advertising
 unfoldable pub controllerOctetsOk : Octets → ℕ → Bool
 controllerOctetsOk s i =
     radioOk (controllerOf s i .radio)
@@ -27,4 +28,5 @@ controllerOctetsOk s i =
     && (nameOk (controllerOf s i .host .name)
     && (flagsOctetsOk s (base i)
     && (openOctetsOk (controllerOf s i .radio) (u16 s (base i + 1)) (part s (base i + 1 + 2) 3)
-    && tablesOctetsOk (controllerOf s i .radio .hardware) tableRules s (base i + 292)))))
+    && (tablesOctetsOk (controllerOf s i .radio .hardware) tableRules s (base i + 292)
+    && advertisingOctetsOk (controllerOf s i .radio .lowEnergy) (controllerOf s i .radio .powered) s (base i + 4028))))))

@@ -22,6 +22,8 @@ use model::codes;
 use model::lengths;
 use rules::Decision;
 
+mod advertising;
+
 // Whether the n octets from a place on are zero. They nearly always are, so they are joined by or, with no test before the end.
 fn blank(s: &[u8], at: usize, n: usize) -> bool
     requires { ⌜ at + n ≤ length (now s) ⌝ }
@@ -163,7 +165,16 @@ fn controller_ok(s: &[u8], i: u64) -> bool
             if name_ok(s, i) {
                 if flags_ok(s, b) {
                     if open_ok(s, b + layout::places::OPEN_CODE, r) {
-                        return tables_ok(s, b + layout::places::TABLES, f.supported);
+                        if tables_ok(s, b + layout::places::TABLES, f.supported) {
+                            let t = layout::schedule_at(s, i);
+                            return advertising::advertising_ok(
+                                s,
+                                b + layout::places::ADVERTISING,
+                                t,
+                                r.lowEnergy,
+                                r.powered,
+                            );
+                        }
                     }
                 }
             }

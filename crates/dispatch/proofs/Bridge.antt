@@ -17,6 +17,7 @@ use Rattle.model.specs.Reasons.{statusOf, codeUnknown, controllerAbsent}
 use Rattle.model.specs.Rules.{Rule, immediate, radio, ImmediateRule, RadioRule, setPowered, setDiscoverable, setConnectable, setLowEnergy, setStaticAddress}
 use Rattle.model.specs.Rules.{general as generalRule}
 use Rattle.model.specs.Immediate.{setBondable, setLocalName, addUuid, removeUuid, loadKeys, linkKeyList, longTermKeyList, identityKeyList}
+use Rattle.model.specs.Immediate.{addAdvertising, removeAdvertising}
 use Rattle.model.specs.Immediate.{unpairDevice, blockDevice, unblockDevice, addDevice, removeDevice, readInformation}
 use Rattle.model.specs.Commands.{rows, find, rule, readVersion, readCommands, readIndexes}
 use Rattle.model.specs.Hub.{refused, byStatus}
@@ -30,7 +31,7 @@ use Rattle.model.specs.declared.Answer.the-variants.{Refused}
 use Rattle.outcomes.specs.Outcomes.{generalCommand, immediateCommand, radioCommand, anyCommand, ended}
 use Rattle.outcomes.proofs.Endings.{ends-refused}
 use Rattle.outcomes.proofs.Routes.{route-unknown, route-general, route-immediate, route-immediate-absent, route-radio, route-radio-absent}
-use Rattle.dispatch.specs.Groups.{member, settingsCodes, keyCodes, deviceCodes, informationCodes, controllerCodes}
+use Rattle.dispatch.specs.Groups.{member, settingsCodes, keyCodes, deviceCodes, advertisingCodes, informationCodes, controllerCodes}
 use Rattle.dispatch.proofs.Groups.{generalCodes, member-rest, member-last, member-other, rule-unknown}
 
 -- 1. A code's function --------------------------------------------------------------------------------------------------------------------------
@@ -76,9 +77,9 @@ member-to code (c ∷ cs) a m = let b = and-true (toController (rule c)) _ a in 
     go true e m t k = rw (equal code c e) t
     go false e m t k = k m
 
--- so has every code of the four groups
+-- so has every code of the five groups
 codes-to : (code : ℕ) → member code controllerCodes ≡ true → toController (rule code) ≡ true
-unfolding allTo toController rule find rows controllerCodes settingsCodes keyCodes deviceCodes informationCodes
+unfolding allTo toController rule find rows controllerCodes settingsCodes keyCodes deviceCodes advertisingCodes informationCodes
 codes-to code m = member-to code controllerCodes refl m
 
 -- a code other than 1, 2 and 3 is not general
@@ -132,6 +133,11 @@ unfolding deviceCodes
 devices-last code m a b c d e =
     member-last code _ (member-rest code _ _ (member-rest code _ _ (member-rest code _ _ (member-rest code _ _ (member-rest code _ _ m a) b) c) d) e)
 
+-- the same, of advertising: Remove Advertising is left
+pub advertising-last : (code : ℕ) → member code advertisingCodes ≡ true → (code ≡ Codes.addAdvertising → ⊥) → code ≡ Codes.removeAdvertising
+unfolding advertisingCodes
+advertising-last code m a = member-last code _ (member-rest code _ _ m a)
+
 -- the same, of information and name: Set Local Name is left
 pub information-last : (code : ℕ) → member code informationCodes ≡ true → (code ≡ Codes.readInformation → ⊥) → code ≡ Codes.setLocalName
 unfolding informationCodes
@@ -139,12 +145,13 @@ information-last code m a = member-last code _ (member-rest code _ _ m a)
 
 -- of the commands to a controller, those of no other group
 pub information-left : (code : ℕ) → member code controllerCodes ≡ true → member code settingsCodes ≡ false → member code keyCodes ≡ false
-    → member code deviceCodes ≡ false → member code informationCodes ≡ true
+    → member code deviceCodes ≡ false → member code advertisingCodes ≡ false → member code informationCodes ≡ true
 unfolding controllerCodes
-information-left code m a b c =
-    member-other code deviceCodes informationCodes
-    (member-other code keyCodes (deviceCodes ++ informationCodes)
-    (member-other code settingsCodes (keyCodes ++ (deviceCodes ++ informationCodes)) m a) b) c
+information-left code m a b c d =
+    member-other code advertisingCodes informationCodes
+    (member-other code deviceCodes (advertisingCodes ++ informationCodes)
+    (member-other code keyCodes (deviceCodes ++ (advertisingCodes ++ informationCodes))
+    (member-other code settingsCodes (keyCodes ++ (deviceCodes ++ (advertisingCodes ++ informationCodes))) m a) b) c) d
 
 -- 4. The rules by code --------------------------------------------------------------------------------------------------------------------------
 
@@ -252,3 +259,13 @@ rule-33 = refl
 pub rule-34 : rule Codes.removeDevice ≡ some (immediate removeDevice)
 unfolding rule find rows
 rule-34 = refl
+
+-- the same, of Add Advertising
+pub rule-3E : rule Codes.addAdvertising ≡ some (immediate addAdvertising)
+unfolding rule find rows
+rule-3E = refl
+
+-- the same, of Remove Advertising
+pub rule-3F : rule Codes.removeAdvertising ≡ some (immediate removeAdvertising)
+unfolding rule find rows
+rule-3F = refl

@@ -10,7 +10,7 @@ use Rattle.model.specs.Codes as Codes
 use Rattle.model.specs.Rules.{Rule}
 use Rattle.model.specs.Commands.{Row, rows, find, rule}
 use Rattle.model.specs.Proof.Tests.{no-way, equal, and-true, or-false}
-use Rattle.dispatch.specs.Groups.{member, settingsCodes, keyCodes, deviceCodes, informationCodes, controllerCodes}
+use Rattle.dispatch.specs.Groups.{member, settingsCodes, keyCodes, deviceCodes, advertisingCodes, informationCodes, controllerCodes}
 
 -- 0x0001 to 0x0003, to no controller
 unfoldable pub generalCodes : List ℕ
@@ -50,16 +50,16 @@ pub or-nothing : (b : Bool) → b || false ≡ b
 or-nothing true = refl
 or-nothing false = refl
 
--- a controller's code is one of the four groups
+-- a controller's code is one of the five groups
 pub controller-groups : (code : ℕ) → member code controllerCodes ≡ member code settingsCodes
-    || (member code keyCodes || (member code deviceCodes || member code informationCodes))
+    || (member code keyCodes || (member code deviceCodes || (member code advertisingCodes || member code informationCodes)))
 unfolding controllerCodes
 controller-groups code =
     rw (
-      member-append code settingsCodes (keyCodes ++ (deviceCodes ++ informationCodes)),
-      member-append code keyCodes
-          (deviceCodes ++ informationCodes),
-      member-append code deviceCodes informationCodes,
+      member-append code settingsCodes (keyCodes ++ (deviceCodes ++ (advertisingCodes ++ informationCodes))),
+      member-append code keyCodes (deviceCodes ++ (advertisingCodes ++ informationCodes)),
+      member-append code deviceCodes (advertisingCodes ++ informationCodes),
+      member-append code advertisingCodes informationCodes,
     )
 
 -- the rule of a code --------------------------------------------------------------------------------------------------------------------------
@@ -102,7 +102,7 @@ outside code (y ∷ ys) xs w e =
 
 -- a code that is neither general nor a controller's has no rule: it is unknown (01, Commands)
 pub rule-unknown : (code : ℕ) → member code generalCodes ≡ false → member code controllerCodes ≡ false → rule code ≡ none
-unfolding rule codesOf rows within member generalCodes controllerCodes settingsCodes keyCodes deviceCodes informationCodes
+unfolding rule codesOf rows within member generalCodes controllerCodes settingsCodes keyCodes deviceCodes advertisingCodes informationCodes
 rule-unknown code g c =
     let all : member code (generalCodes ++ controllerCodes) ≡ false = rw (member-append code generalCodes controllerCodes, g) c in
     find-none code rows (outside code (codesOf rows) (generalCodes ++ controllerCodes) refl all)

@@ -22,10 +22,14 @@ keyCodes = Codes.loadLinkKeys ∷ Codes.loadLongTermKeys ∷ Codes.loadIdentityK
 unfoldable pub deviceCodes : List ℕ
 deviceCodes = Codes.addUuid ∷ Codes.removeUuid ∷ Codes.blockDevice ∷ Codes.unblockDevice ∷ Codes.addDevice ∷ Codes.removeDevice ∷ []
 
+-- advertising
+unfoldable pub advertisingCodes : List ℕ
+advertisingCodes = Codes.addAdvertising ∷ Codes.removeAdvertising ∷ []
+
 -- information and name
 unfoldable pub informationCodes : List ℕ
 informationCodes = Codes.readInformation ∷ Codes.setLocalName ∷ []
 
 -- the commands to a controller
 unfoldable pub controllerCodes : List ℕ
-controllerCodes = settingsCodes ++ (keyCodes ++ (deviceCodes ++ informationCodes))
+controllerCodes = settingsCodes ++ (keyCodes ++ (deviceCodes ++ (advertisingCodes ++ informationCodes)))

@@ -8,7 +8,7 @@ ghost use Rattle.model.specs.Meanings.{stateOk};
 ghost use Rattle.layout.specs.Places.{Ready};
 ghost use Rattle.replies.specs.Answers.{Gives};
 ghost use Rattle.outcomes.specs.Outcomes.{anyCommand};
-ghost use Rattle.dispatch.specs.Groups.{member, settingsCodes, keyCodes, deviceCodes, informationCodes, controllerCodes};
+ghost use Rattle.dispatch.specs.Groups.{member, settingsCodes, keyCodes, deviceCodes, advertisingCodes, informationCodes, controllerCodes};
 use model::Answer;
 use model::codes;
 use model::statuses;
@@ -73,6 +73,16 @@ fn is_devices(code: u64) -> bool
     code == codes::REMOVE_DEVICE
 }
 
+// Whether a code is that of Add Advertising or Remove Advertising.
+fn is_advertising(code: u64) -> bool
+    ensures { λ r. ⌜ r ≡ member code advertisingCodes ⌝ }
+{
+    if code == codes::ADD_ADVERTISING {
+        return true;
+    }
+    code == codes::REMOVE_ADVERTISING
+}
+
 // Whether a code is that of Read Controller Information or Set Local Name.
 fn is_information(code: u64) -> bool
     ensures { λ r. ⌜ r ≡ member code informationCodes ⌝ }
@@ -94,6 +104,9 @@ fn to_controller(code: u64) -> bool
         return true;
     }
     if is_devices(code) {
+        return true;
+    }
+    if is_advertising(code) {
         return true;
     }
     is_information(code)
@@ -120,6 +133,23 @@ fn settings_command(state: &mut [u8], index: u64, code: u64, ps: &[u8], reply: &
         return settings::set_low_energy(state, index, ps, reply);
     }
     settings::set_static_address(state, index, ps, reply)
+}
+
+// Add Advertising or Remove Advertising to a present controller.
+fn advertising_command(
+    state: &mut [u8],
+    index: u64,
+    code: u64,
+    ps: &[u8],
+    reply: &mut [u8],
+) -> Answer
+    requires { ⌜ Ready (now state) index × (Lengths.replyBuffer ≤ length (now reply)) × (member code advertisingCodes ≡ true) ⌝ }
+    ensures { λ r. ⌜ Gives (anyCommand (now (state .entry)) index code (now (ps .entry))) r (now (reply .entry)) (now (reply .exit)) (now (state .exit)) ⌝ }
+{
+    if code == codes::ADD_ADVERTISING {
+        return advertising::add_advertising(state, index, ps, reply);
+    }
+    advertising::remove_advertising(state, index, ps, reply)
 }
 
 // Read Controller Information or Set Local Name to a present controller.
@@ -198,6 +228,9 @@ fn controller_command(
     }
     if is_devices(code) {
         return devices_command(state, index, code, ps, reply);
+    }
+    if is_advertising(code) {
+        return advertising_command(state, index, code, ps, reply);
     }
     information_command(state, index, code, ps, reply)
 }

@@ -13,17 +13,17 @@ use Rattle.model.specs.Image.{image}
 use Rattle.model.specs.Hub.{command, report, clock, plug, unplug, save, finished, badPacket, noRoom, codeOf, indexOf, packetOk, answerOf, octetsOf}
 use Rattle.model.specs.Hub.{stateOf, clockOut, plugOut, unplugOut, unplugged}
 use Rattle.model.specs.Layout.{decode}
-use Rattle.model.specs.Meanings.{badState, hubName, stateOk, laidOut, meaning}
-use Rattle.model.specs.Theorems.{no-name-longer}
+use Rattle.model.specs.Meanings.{badState, hubName, hubOnAir, reading, stateOk, laidOut, meaning}
+use Rattle.model.specs.Theorems.{no-name-longer, no-on-air-longer}
 use Rattle.model.specs.Answers.{countOf}
 use Rattle.replies.specs.Answers.{Gives}
 use Rattle.model.specs.declared.Answer.{Answer}
 use Rattle.model.specs.declared.Answer.the-variants.{BadPacket, SmallBuffer, BadState}
-use Rattle.outcomes.specs.Outcomes.{ended, anyCommand, reported, nameRead}
+use Rattle.outcomes.specs.Outcomes.{ended, anyCommand, reported, nameRead, onAirRead}
 use Rattle.outcomes.proofs.Endings.{ends-silent}
 use Rattle.outcomes.proofs.Routes.{command-small, command-bad, command-whole, report-small, report-whole, clock-small, clock-whole, plug-small}
 use Rattle.outcomes.proofs.Routes.{plug-whole, unplug-small, unplug-whole, save-small, save-whole}
-use Rattle.outcomes.proofs.Routes.{name-small, name-whole}
+use Rattle.outcomes.proofs.Routes.{name-small, name-whole, on-air-small, on-air-whole}
 
 -- a reply buffer that is too short
 small : (s d : Octets) → stateOk s ≡ true → Gives (ended s noRoom) SmallBuffer d d s
@@ -104,8 +104,8 @@ save-done s d d′ s′ room r ok l k = rw (save-whole s room ok l) k
 
 -- a state that is not well formed: 5
 pub name-bad : (s d : Octets) (i which room : ℕ) → stateOk s ≡ false → Gives (hubName s i which room) BadState d d s
-unfolding badState hubName
-name-bad s d i which room e = rw (e, hubName) (record { answer = refl; count = refl; reply = refl; state = refl })
+unfolding badState hubName reading
+name-bad s d i which room e = rw (e, reading) (record { answer = refl; count = refl; reply = refl; state = refl })
 
 -- too short a reply buffer: 4
 pub name-no-room : (s d : Octets) (i which room : ℕ) → stateOk s ≡ true → room < Lengths.replyBuffer → Gives (hubName s i which room) SmallBuffer d d s
@@ -119,3 +119,23 @@ name-done s d d′ s′ i which room r ok l k = rw (name-whole s i which room ok
 -- the count of a name is far below that of an image
 pub name-count : (s d d′ s′ : Octets) (i which room : ℕ) (r : Answer) → Gives (hubName s i which room) r d d′ s′ → countOf r ≤ Lengths.largestImage
 name-count s d d′ s′ i which room r g = rw (g .count) (omega (arith, no-name-longer s i which room))
+
+-- 4. What is on air, which is no call -------------------------------------------------------------------------------------------------------------
+
+-- a state that is not well formed: answer 5
+pub on-air-bad : (s d : Octets) (i room : ℕ) → stateOk s ≡ false → Gives (hubOnAir s i room) BadState d d s
+unfolding hubOnAir reading badState
+on-air-bad s d i room e = rw (e, reading) (record { answer = refl; count = refl; reply = refl; state = refl })
+
+-- too short a reply buffer: answer 4
+pub on-air-no-room : (s d : Octets) (i room : ℕ) → stateOk s ≡ true → room < Lengths.replyBuffer → Gives (hubOnAir s i room) SmallBuffer d d s
+on-air-no-room s d i room ok l = rw (on-air-small s i room ok l) (small s d ok)
+
+-- with room, what stands at the index tells
+pub on-air-done : (s d d′ s′ : Octets) (i room : ℕ) (r : Answer) → stateOk s ≡ true → Lengths.replyBuffer ≤ room
+    → Gives (onAirRead s i) r d d′ s′ → Gives (hubOnAir s i room) r d d′ s′
+on-air-done s d d′ s′ i room r ok l k = rw (on-air-whole s i room ok l) k
+
+-- its count is far below that of an image
+pub on-air-count : (s d d′ s′ : Octets) (i room : ℕ) (r : Answer) → Gives (hubOnAir s i room) r d d′ s′ → countOf r ≤ Lengths.largestImage
+on-air-count s d d′ s′ i room r g = rw (g .count) (omega (arith, no-on-air-longer s i room))

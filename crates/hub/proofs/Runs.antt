@@ -24,7 +24,7 @@ use Rattle.model.specs.Theorems.{answers-are-eight, count-fits, demand-3, load-
 use Rattle.model.specs.Proof.Tests.{and-true, both, either, equal, no-way}
 use Rattle.model.specs.Proof.Demand3.{state-back}
 use Rattle.hub.specs.Entries.{Returns}
-use Rattle.hub.specs.Runs.{CountsTrue, Demand3OfRuns, EveryListRuns, Run, Seen, Step, answerIn, countIn, ends, entryOf, names, octetsIn, step}
+use Rattle.hub.specs.Runs.{CountsTrue, Demand3OfRuns, EveryListRuns, Run, Seen, Step, answerIn, countIn, ends, entryOf, names, octetsIn, onAir, step}
 use Rattle.hub.specs.Runs as Runs
 
 -- 1. What a number says -------------------------------------------------------------------------------------------------------------------------
@@ -95,6 +95,7 @@ run-of : (s end : Octets) (xs : List Seen) → Run s xs end → RunOf s xs end
 unfolding callsOf callsWide trace after CountsTrue
 run-of s end xs ends = record { wide = refl; seen = refl; counts = tt; state = refl }
 run-of s end xs (names index which r k more) = run-of s end xs more
+run-of s end xs (onAir index r k more) = run-of s end xs more
 run-of s end (x ∷ xs) (step {next = n} k more) = run-more s n end x xs (step-of s (x .call) (x .returned) (x .reply) n k) (run-of n end xs more)
 
 -- 4. Demand 3 -----------------------------------------------------------------------------------------------------------------------------------

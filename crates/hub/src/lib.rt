@@ -1,10 +1,10 @@
-// The hub: the order of a call, and the eight functions that C calls: 01's seven, and one that tells a name.
+// The hub: the order of a call, and the nine functions that C calls: 01's seven, one that tells a name, and one that tells what is on air.
 ghost use mathlib.Core.Path.{_≡_};
 ghost use Prim.Native.Nat.{_≤_};
 ghost use lib.ListN.{length};
 ghost use Rattle.model.specs.Lengths as Lengths;
 ghost use Rattle.model.specs.Hub as Hub;
-ghost use Rattle.model.specs.Meanings.{meaning, hubCommand, hubReport, hubClock, hubPlug, hubUnplug, hubSave, hubLoad, hubName};
+ghost use Rattle.model.specs.Meanings.{meaning, hubCommand, hubReport, hubClock, hubPlug, hubUnplug, hubSave, hubLoad, hubName, hubOnAir};
 ghost use Rattle.model.specs.Answers.{countOf};
 ghost use Rattle.replies.specs.Answers.{Gives};
 ghost use Rattle.hub.specs.Entries.{packed, Returns};
@@ -161,6 +161,21 @@ fn name(state: &[u8], index: u64, which: u64, reply: &mut [u8]) -> Answer
     Answer::BadState
 }
 
+// What is on air at an index.
+fn on_air(state: &[u8], index: u64, reply: &mut [u8]) -> Answer
+    ensures { λ r. ⌜
+        Gives (hubOnAir (now (state .entry)) index (length (now (reply .entry)))) r (now (reply .entry)) (now (reply .exit)) (now (state .entry))
+        ⌝ }
+{
+    if checks::well_formed(state) {
+        if lengths::REPLY_BUFFER <= reply.len() {
+            return advertising::on_air(state, index, reply);
+        }
+        return Answer::SmallBuffer;
+    }
+    Answer::BadState
+}
+
 // C's call of a command.
 #[no_mangle]
 pub extern "C" fn hub_command(state: &mut [u8], packet: &[u8], reply: &mut [u8]) -> u64
@@ -263,5 +278,16 @@ pub extern "C" fn hub_name(state: &[u8], index: u64, which: u64, reply: &mut [u8
         ⌝ }
 {
     let a = name(state, index, which, reply);
+    pack(a)
+}
+
+// C's question what is on air: the state is only read.
+#[no_mangle]
+pub extern "C" fn hub_on_air(state: &[u8], index: u64, reply: &mut [u8]) -> u64
+    ensures { λ r. ⌜
+        Returns (hubOnAir (now (state .entry)) index (length (now (reply .entry)))) r (now (reply .entry)) (now (reply .exit)) (now (state .entry))
+        ⌝ }
+{
+    let a = on_air(state, index, reply);
     pack(a)
 }

@@ -22,11 +22,11 @@ use model::codes;
 use model::events;
 use model::statuses;
 
-// What Read Commands returns: the counts, 19 and 10, then the codes of the commands and of the events, two octets each.
-const COMMANDS: [u8; 62] = [
-    19,
+// What Read Commands returns: the counts, 21 and 12, then the codes of the commands and of the events, two octets each.
+const COMMANDS: [u8; 70] = [
+    21,
     0,
-    10,
+    12,
     0,
     0x03,
     0,
@@ -66,6 +66,10 @@ const COMMANDS: [u8; 62] = [
     0,
     0x34,
     0,
+    0x3E,
+    0,
+    0x3F,
+    0,
     0x04,
     0,
     0x05,
@@ -85,6 +89,10 @@ const COMMANDS: [u8; 62] = [
     0x1A,
     0,
     0x1B,
+    0,
+    0x23,
+    0,
+    0x24,
     0,
 ];
 
@@ -115,7 +123,7 @@ pub fn read_version(state: &[u8], index: u64, ps: &[u8], reply: &mut [u8]) -> An
     general_reply(index, codes::READ_VERSION, ps, &body, reply)
 }
 
-// 0x0002 Read Commands: 19 commands and 10 events, then their codes, two octets each.
+// 0x0002 Read Commands: 21 commands and 12 events, then their codes, two octets each.
 pub fn read_commands(state: &[u8], index: u64, ps: &[u8], reply: &mut [u8]) -> Answer
     requires { ⌜ (stateOk (now state) ≡ true) × (Lengths.replyBuffer ≤ length (now reply)) ⌝ }
     ensures { λ r. ⌜

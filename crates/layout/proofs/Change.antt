@@ -52,7 +52,7 @@ unfolding block
 zeros n e = rw e
 
 -- a write over a whole piece
-write-piece : (ps : List Octets) (k : ℕ) (w : Octets) → length w ≡ length (getD ps k []) → writeIn ps k 0 w ≡ set ps k w
+pub write-piece : (ps : List Octets) (k : ℕ) (w : Octets) → length w ≡ length (getD ps k []) → writeIn ps k 0 w ≡ set ps k w
 unfolding writeIn
 write-piece ps k w e = ap (λ (x : Octets). set ps k x) (write-whole (getD ps k []) w e)
 
@@ -66,7 +66,7 @@ controller-fine s i r =
 
 module _ (s : Octets) (i : ℕ) (r : Ready s i) where
   -- the shape of the hub
-  shape : Shaped (decode s) i
+  pub shape : Shaped (decode s) i
   shape = shaped (decode s) i (state-well s (r .ok)) (r .below)
 
   -- the block of a present index is the pieces of its controller and its open command
@@ -77,7 +77,7 @@ module _ (s : Octets) (i : ℕ) (r : Ready s i) where
       ∙ rw (present-slot s i (r .here), join-block (controllerOf s i) (getD (decode s .openCommands) i none))
 
   -- and they have their sizes
-  now-sized : lengths (pieces (controllerOf s i) (openAt s i)) ≡ sizes
+  pub now-sized : lengths (pieces (controllerOf s i) (openAt s i)) ≡ sizes
   now-sized = pieces-sized (controllerOf s i) (openAt s i) (controller-fine s i r)
 
   -- what is read in piece k
@@ -90,7 +90,7 @@ module _ (s : Octets) (i : ℕ) (r : Ready s i) where
       ap (λ (x : Octets). part x (placeOf i k) n) now-is ∙ (rw add-zero at q) ∙ take-all n (getD ps k []) (omega arith)
 
   -- piece k written anew, where that makes the pieces of a controller d and an open command o
-  pub piece-changed : (k : ℕ) (w : Octets) (d : Controller) (o : Option OpenCommand) → k < 11 → length w ≡ getD sizes k 0
+  pub piece-changed : (k : ℕ) (w : Octets) (d : Controller) (o : Option OpenCommand) → k < 22 → length w ≡ getD sizes k 0
       → set (pieces (controllerOf s i) (openAt s i)) k w ≡ pieces d o
       → writeAt s (placeOf i k) w ≡ encode (withSlot (decode s) i (some d) o)
   piece-changed k w d o l n e =
@@ -103,7 +103,7 @@ module _ (s : Octets) (i : ℕ) (r : Ready s i) where
       ap (λ (x : Octets). writeAt x (placeOf i k) w) now-is ∙ (rw (add-zero, p) at q) ∙ f
 
   -- a piece of the controller written anew, with the open command as it was
-  pub controller-changed : (k : ℕ) (w : Octets) (d : Controller) → k < 11 → length w ≡ getD sizes k 0
+  pub controller-changed : (k : ℕ) (w : Octets) (d : Controller) → k < 22 → length w ≡ getD sizes k 0
       → set (pieces (controllerOf s i) (openAt s i)) k w ≡ pieces d (openAt s i)
       → writeAt s (placeOf i k) w ≡ encode (putController (decode s) i d)
   unfolding openAt

@@ -11,8 +11,11 @@ use lib.Dec.{lit<, lit≤}
 use Rattle.model.specs.Lengths as Lengths
 use Rattle.model.specs.declared.Hardware.{Hardware}
 use Rattle.model.specs.Octets.{Octets, le16, le32}
+use Rattle.model.specs.Advertising.{noAdvertising, noSchedule}
+use Rattle.model.specs.Commands.{words}
 use Rattle.model.specs.State.{OpenCommand, flag, fresh, idle, leSupported, noTables, noTimer, plugged, settingsOf}
 use Rattle.model.specs.Tables.{blockedRule, deviceRule, identityKeyRule, linkKeyRule, longTermKeyRule, tableRules, uuidRule}
+use Rattle.model.specs.Layout.{dataPart, schedulePart}
 use Rattle.model.specs.Layout.{block, blocks, decode, encode, hardwarePart, occupancy, openPart, region, settingsPart, slotOctets, slots}
 use Rattle.model.specs.Meanings.{stateOk}
 use Rattle.model.specs.Proof.Demand3.{state-back, state-well}
@@ -20,7 +23,8 @@ use Rattle.octets.specs.Parts.{placeAt, writeAt}
 use Rattle.octets.proofs.Parts.{join, lengths, write-split, write-whole}
 use Rattle.layout.specs.Places.{base, hardwareHead, openAt, placeOf, presentAt, putController, sizes, withClock}
 use Rattle.layout.proofs.Reading.{absent-open, absent-slot}
-use Rattle.layout.proofs.Lens.{Shaped, join-block, piece-write, pieces, regionPieces, shaped, state-is, state-put, withBlock, withSlot}
+use Rattle.layout.proofs.Lens.{Shaped, advertisingPieces, join-block, piece-write, pieces, regionPieces, shaped, state-is, state-put, withBlock}
+use Rattle.layout.proofs.Lens.{withSlot}
 use Rattle.layout.proofs.Lens.{write-in-sized, writeIn}
 use Rattle.layout.proofs.Change.{put-controller}
 use Rattle.table.proofs.Regions.{word-over}
@@ -50,7 +54,8 @@ length-hardware f n = omega arith
 filled-pieces : (f : Hardware) → length (f .publicAddress) ≡ 6
     → writeIn (writeIn (writeIn zeroPieces 0 0 (1 ∷ [])) 2 0 (hardwarePart f)) 3 4 (flag (leSupported f) 1 ∷ []) ≡ pieces (plugged f) none
 unfolding zeroPieces sizes writeIn writeAt pieces openPart plugged settingsPart settingsOf noTimer noTables flag le16 le32 regionPieces region
-    occupancy slots slotOctets tableRules uuidRule linkKeyRule longTermKeyRule identityKeyRule blockedRule deviceRule
+    advertisingPieces schedulePart dataPart words noAdvertising noSchedule occupancy slots slotOctets tableRules uuidRule linkKeyRule longTermKeyRule
+    identityKeyRule blockedRule deviceRule
 filled-pieces f n =
     let hw : writeAt (replicate 13 0) 0 (hardwarePart f) ≡ hardwarePart f = write-whole (replicate 13 0) (hardwarePart f) (length-hardware f n) in
     ap {B = List Octets} (λ x. (1 ∷ []) ∷ replicate 5 0 ∷ x ∷ (0 ∷ 0 ∷ 0 ∷ 0 ∷ flag (leSupported f) 1 ∷ replicate 8 0) ∷ drop 4 zeroPieces) hw

@@ -3,22 +3,25 @@ use mathlib.Core.Path.{_≡_, refl, ap, sym, _∙_}
 use Prim.Native.Nat.{ℕ, zero, suc, _+_, _*_, _≤_, _<_}
 use native.Mathlib.Omega.{arith}
 use native.Mathlib.Nat.{add-zero}
-use mathlib.Core.Bool.{true}
-use mathlib.Core.List.{List, [], _∷_, _++_}
+use mathlib.Core.Bool.{Bool, true}
+use mathlib.Core.List.{List, [], _∷_, _++_, map, append-assoc, append-nil}
 use mathlib.Core.Option.{Option, none, some}
-use lib.ListN.{length, getD, drop, set, length-append, length-set}
+use lib.ListN.{length, getD, drop, set, replicate, length-append, length-set}
 use lib.Seq.{getD-set-same, set-set, set-getD}
 use lib.Dec.{eqb}
 use Rattle.model.specs.Lengths as Lengths
 use Rattle.model.specs.declared.Hardware.{Hardware}
-use Rattle.model.specs.Octets.{Octets, le16, le32}
+use Rattle.model.specs.Octets.{Octets, joined, le16, le32}
+use Rattle.model.specs.Advertising.{Advertising}
 use Rattle.model.specs.State.{Controller, Hub, OpenCommand, Table, hardwareOk, settingsOf, withController}
 use Rattle.model.specs.Tables.{TableRule, blockedRule, deviceRule, identityKeyRule, linkKeyRule, longTermKeyRule, tableRules, uuidRule}
 use Rattle.model.specs.Image.{radioOk}
-use Rattle.model.specs.WellFormed.{controllerOk, plainOk, slotOk, slotsOk, tableOk, tablesOk, wellFormed}
+use Rattle.model.specs.WellFormed.{advertisingOk, controllerOk, plainOk, slotOk, slotsOk, tableOk, tablesOk, wellFormed}
+use Rattle.model.specs.Layout.{advertisingPart, dataPart, schedulePart}
 use Rattle.model.specs.Layout.{block, blocks, controllerPart, encode, hardwarePart, openPart, region, regions, settingsPart}
 use Rattle.model.specs.Proof.Decode.{length-region}
-use Rattle.model.specs.Proof.Layout.{length-block, length-open}
+use Rattle.model.specs.Proof.Advertising.{five-each}
+use Rattle.model.specs.Proof.Layout.{length-block, length-data, length-open, length-schedule}
 use Rattle.model.specs.Proof.Parts.{controller-fit}
 use Rattle.model.specs.Proof.Stays.{plain-fit}
 use Rattle.model.specs.Proof.Tests.{and-true, equal, no-way}
@@ -29,15 +32,25 @@ use Rattle.model.specs.Proof.Keeps.{opens-length}
 
 -- 1. The pieces of a block, and the blocks of the state -----------------------------------------------------------------------------------------
 
--- a region for each table
-unfoldable pub regionPieces : List TableRule → List Table → List Octets
-regionPieces [] ts = []
-regionPieces (u ∷ us) [] = []
-regionPieces (u ∷ us) (t ∷ ts) = region (u .size) t ∷ regionPieces us ts
+-- a region for each table, and what follows them
+unfoldable pub regionPieces : List TableRule → List Table → List Octets → List Octets
+regionPieces [] ts rest = rest
+regionPieces (u ∷ us) [] rest = rest
+regionPieces (u ∷ us) (t ∷ ts) rest = region (u .size) t ∷ regionPieces us ts rest
+
+-- the schedule, and a piece for the data of each instance, each way
+unfoldable pub advertisingPieces : Advertising → List Octets
+advertisingPieces a = schedulePart (a .schedule) ∷ (map dataPart (a .advData) ++ map dataPart (a .scanRsp))
 
 -- the pieces of a present controller's block
 unfoldable pub pieces : Controller → Option OpenCommand → List Octets
-pieces c o = (1 ∷ []) ∷ openPart o ∷ hardwarePart (c .radio .hardware) ∷ settingsPart (settingsOf c) ∷ c .host .name ∷ regionPieces tableRules (c .host .tables)
+pieces c o =
+    (1 ∷ [])
+    ∷ openPart o
+    ∷ hardwarePart (c .radio .hardware)
+    ∷ settingsPart (settingsOf c)
+    ∷ c .host .name
+    ∷ regionPieces tableRules (c .host .tables) (advertisingPieces (c .host .advertising))
 
 -- the blocks, as pieces of the state
 unfoldable pub blockPieces : List (Option Controller) → List (Option OpenCommand) → List Octets
@@ -45,16 +58,29 @@ blockPieces [] os = []
 blockPieces (s ∷ ss) os = block s (getD os 0 none) ∷ blockPieces ss (drop 1 os)
 
 -- joined, the regions are the model's
-join-regions : (us : List TableRule) (ts : List Table) → join (regionPieces us ts) ≡ regions us ts
+join-regions : (us : List TableRule) (ts : List Table) (rest : List Octets) → join (regionPieces us ts rest) ≡ regions us ts ++ join rest
 unfolding join regionPieces regions
-join-regions [] ts = refl
-join-regions (u ∷ us) [] = refl
-join-regions (u ∷ us) (t ∷ ts) = rw (join-regions us ts)
+join-regions [] ts rest = refl
+join-regions (u ∷ us) [] rest = refl
+join-regions (u ∷ us) (t ∷ ts) rest = rw (join-regions us ts rest, append-assoc)
+
+-- runs of data joined, one kind behind the other
+join-data : (os ps : List Octets) → join (map dataPart os ++ map dataPart ps) ≡ joined (map dataPart os) ++ joined (map dataPart ps)
+unfolding join joined
+join-data [] [] = refl
+join-data [] (p ∷ ps) = ap (λ (x : Octets). dataPart p ++ x) (join-data [] ps)
+join-data (o ∷ os) ps = rw (join-data os ps, append-assoc)
+
+-- joined, schedule and data are the model's
+join-advertising : (a : Advertising) → join (advertisingPieces a) ≡ advertisingPart a
+unfolding join advertisingPieces advertisingPart
+join-advertising a = rw (join-data (a .advData) (a .scanRsp))
 
 -- joined, the pieces are the block
 pub join-block : (c : Controller) (o : Option OpenCommand) → block (some c) o ≡ join (pieces c o)
 unfolding join pieces block controllerPart
-join-block c o = rw (join-regions tableRules (c .host .tables))
+join-block c o =
+    rw (join-regions tableRules (c .host .tables) (advertisingPieces (c .host .advertising)), join-advertising (c .host .advertising))
 
 -- joined, the blocks are the state behind the clock
 join-blocks : (ss : List (Option Controller)) (os : List (Option OpenCommand)) → blocks ss os ≡ join (blockPieces ss os)
@@ -171,7 +197,7 @@ length-join [] = refl
 length-join (p ∷ ps) = length-append p (join ps) ∙ rw (length-join ps)
 
 -- a piece as long as the one before it leaves the lengths
-lengths-set : (ps : List Octets) (k : ℕ) (p : Octets) → length p ≡ length (getD ps k []) → lengths (set ps k p) ≡ lengths ps
+pub lengths-set : (ps : List Octets) (k : ℕ) (p : Octets) → length p ≡ length (getD ps k []) → lengths (set ps k p) ≡ lengths ps
 unfolding lengths
 lengths-set [] k p e = refl
 lengths-set (q ∷ ps) zero p e = rw e
@@ -192,12 +218,28 @@ sizesOf [] = []
 sizesOf (u ∷ us) = (4 + u .size * 32) ∷ sizesOf us
 
 -- valid tables have them
-region-sizes : (f : Hardware) (us : List TableRule) (ts : List Table) → tablesOk f us ts ≡ true → lengths (regionPieces us ts) ≡ sizesOf us
+region-sizes : (f : Hardware) (us : List TableRule) (ts : List Table) (rest : List Octets) → tablesOk f us ts ≡ true
+    → lengths (regionPieces us ts rest) ≡ sizesOf us ++ lengths rest
 unfolding lengths regionPieces sizesOf tablesOk
-region-sizes f [] [] e = refl
-region-sizes f [] (t ∷ ts) e = no-way (sym e)
-region-sizes f (u ∷ us) [] e = no-way (sym e)
-region-sizes f (u ∷ us) (t ∷ ts) e = let a = and-true (tableOk u f t) _ e in rw (length-region u f t (a .0), region-sizes f us ts (a .1))
+region-sizes f [] [] rest e = refl
+region-sizes f [] (t ∷ ts) rest e = no-way (sym e)
+region-sizes f (u ∷ us) [] rest e = no-way (sym e)
+region-sizes f (u ∷ us) (t ∷ ts) rest e = let a = and-true (tableOk u f t) _ e in rw (length-region u f t (a .0), region-sizes f us ts rest (a .1))
+
+-- the data of instances have 32 octets each
+data-sizes : (os rest : List Octets) → lengths (map dataPart os ++ rest) ≡ replicate (length os) 32 ++ lengths rest
+unfolding lengths
+data-sizes [] rest = refl
+data-sizes (o ∷ os) rest = rw (length-data o, data-sizes os rest)
+
+-- valid advertising has a schedule of 23 octets, and five data each way
+advertising-sizes : (l w : Bool) (a : Advertising) → advertisingOk l w a ≡ true → lengths (advertisingPieces a) ≡ 23
+    ∷ (replicate 5 32 ++ (replicate 5 32 ++ []))
+unfolding lengths advertisingPieces
+advertising-sizes l w a e =
+    let f = five-each l w a e in
+    let p : lengths (map dataPart (a .scanRsp)) ≡ replicate 5 32 ++ [] = rw (append-nil, f .scanRsp) at (data-sizes (a .scanRsp) []) in
+    rw (length-schedule (a .schedule) (f .durations) (f .timeouts), data-sizes (a .advData) (map dataPart (a .scanRsp)), f .advData, p)
 
 -- the pieces of a valid controller have the sizes
 pub pieces-sized : (c : Controller) (o : Option OpenCommand) → controllerOk c ≡ true → lengths (pieces c o) ≡ sizes
@@ -209,7 +251,9 @@ pieces-sized c o e =
     (and-true (eqb (length (c .radio .hardware .publicAddress)) 6) _ (and-true (hardwareOk (c .radio .hardware)) _ (h .radio) .0) .0) in
     let s6 : length (c .radio .staticAddress) ≡ 6 = equal _ _ (h .staticAddress) in
     let n : length (c .host .name) ≡ 260 = equal _ _ (and-true (eqb (length (c .host .name)) 260) _ (h .name) .0) in
-    rw (p6, s6, n, length-open o, region-sizes (c .radio .hardware) tableRules (c .host .tables) (h .tables))
+    let rest = advertisingPieces (c .host .advertising) in
+    let a : lengths rest ≡ 23 ∷ (replicate 5 32 ++ (replicate 5 32 ++ [])) = advertising-sizes _ _ (c .host .advertising) (h .advertising) in
+    rw (p6, s6, n, length-open o, region-sizes (c .radio .hardware) tableRules (c .host .tables) rest (h .tables), a)
 
 -- 5. THE LENS OF A BLOCK ------------------------------------------------------------------------------------------------------------------------
 
@@ -270,10 +314,10 @@ module _ (h : Hub) (i : ℕ) (s : Shaped h i) (ps : List Octets) (z : lengths ps
   pub piece-length : (k : ℕ) → length (getD ps k []) ≡ getD sizes k 0
   piece-length k = sym (got ps k) ∙ rw z
 
-  -- eleven pieces
-  eleven : length ps ≡ 11
+  -- as many pieces as sizes
+  all-there : length ps ≡ 22
   unfolding sizes
-  eleven = sym (length-lengths ps) ∙ rw z
+  all-there = sym (length-lengths ps) ∙ rw z
 
   -- joined, they are as long as a block
   pub all-long : length (join ps) ≡ Lengths.block
@@ -289,11 +333,11 @@ module _ (h : Hub) (i : ℕ) (s : Shaped h i) (ps : List Octets) (z : lengths ps
       rw e (block-read h i s (join ps) all-long (placeAt sizes k + a) n (omega (arith, inside k)) ∙ (rw z at q))
 
   -- writing in piece k of block i
-  pub piece-write : (k a : ℕ) (w : Octets) → k < 11 → a + length w ≤ getD sizes k 0
+  pub piece-write : (k a : ℕ) (w : Octets) → k < 22 → a + length w ≤ getD sizes k 0
       → writeAt (withBlock h i (join ps)) (placeOf i k + a) w ≡ withBlock h i (join (writeIn ps k a w))
   unfolding placeOf writeIn
   piece-write k a w l f =
-      let n = eleven in
+      let n = all-there in
       let e : base i + placeAt sizes k + a ≡ base i + (placeAt sizes k + a) = omega arith in
       let q = join-write ps k a w (omega arith) (rw (piece-length k) f) in
       rw e (block-write h i s (join ps) all-long (placeAt sizes k + a) w (omega (arith, inside k)) ∙ ap (λ (x : Octets). withBlock h i x) (rw z at q))

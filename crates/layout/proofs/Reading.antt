@@ -134,7 +134,7 @@ absent-controller s i e = go (ltb i 4) refl
 -- 3. The parts of a controller ----------------------------------------------------------------------------------------------------------------
 
 -- what stands in the block of a controller stands in the state: an octet
-octet-at : (s : Octets) (b k : ℕ) → k < 4022 → getD (drop 6 (part s b Lengths.block)) k 0 ≡ getD s (b + (6 + k)) 0
+pub octet-at : (s : Octets) (b k : ℕ) → k < 4365 → getD (drop 6 (part s b Lengths.block)) k 0 ≡ getD s (b + (6 + k)) 0
 octet-at s b k h = getD-drop 6 (part s b Lengths.block) k 0 ∙ getD-part s b Lengths.block (6 + k) (omega arith)
 
 -- a part
@@ -143,7 +143,7 @@ unfolding part
 part-at s b k n h = rw (drop-drop k 6 (part s b Lengths.block)) (part-part s b Lengths.block (6 + k) n h)
 
 -- a number of two octets
-u16-at : (s : Octets) (b k : ℕ) → k < 4021 → u16 (drop 6 (part s b Lengths.block)) k ≡ u16 s (b + (6 + k))
+pub u16-at : (s : Octets) (b k : ℕ) → k < 4364 → u16 (drop 6 (part s b Lengths.block)) k ≡ u16 s (b + (6 + k))
 unfolding u16
 u16-at s b k h =
     let e : b + (6 + (k + 1)) ≡ b + (6 + k) + 1 = omega arith in

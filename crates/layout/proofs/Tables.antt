@@ -27,7 +27,7 @@ use Rattle.octets.proofs.Parts.{drop-take, u32-part}
 use Rattle.layout.specs.Places.{Ready, controllerOf, openAt, placeOf, putController, sizes, tablePlace}
 use Rattle.table.specs.Slots.{tableAt}
 use Rattle.table.proofs.Slots.{sized-ok}
-use Rattle.layout.proofs.Lens.{inside, pieces, regionPieces}
+use Rattle.layout.proofs.Lens.{advertisingPieces, inside, pieces, regionPieces}
 use Rattle.layout.proofs.Change.{controller-changed, controller-fine, piece-at}
 use Rattle.layout.proofs.Kept.{controller-back, controller-ready, host-fine}
 use Rattle.table.proofs.Regions.{length-region}
@@ -57,22 +57,23 @@ table-part s p size =
 -- 2. The regions among the pieces ---------------------------------------------------------------------------------------------------------------
 
 -- the region of table k
-region-get : (f : Hardware) (us : List TableRule) (ts : List Table) (k : ℕ) → tablesOk f us ts ≡ true → k < length us
-    → getD (regionPieces us ts) k [] ≡ region (getD us k uuidRule .size) (getD ts k [])
+region-get : (f : Hardware) (us : List TableRule) (ts : List Table) (rest : List Octets) (k : ℕ) → tablesOk f us ts ≡ true → k < length us
+    → getD (regionPieces us ts rest) k [] ≡ region (getD us k uuidRule .size) (getD ts k [])
 unfolding tablesOk regionPieces
-region-get f [] ts k e l = absurd (omega arith)
-region-get f (u ∷ us) [] k e l = no-way (sym e)
-region-get f (u ∷ us) (t ∷ ts) zero e l = refl
-region-get f (u ∷ us) (t ∷ ts) (suc k) e l = region-get f us ts k (and-true (tableOk u f t) _ e .1) (omega arith)
+region-get f [] ts rest k e l = absurd (omega arith)
+region-get f (u ∷ us) [] rest k e l = no-way (sym e)
+region-get f (u ∷ us) (t ∷ ts) rest zero e l = refl
+region-get f (u ∷ us) (t ∷ ts) rest (suc k) e l = region-get f us ts rest k (and-true (tableOk u f t) _ e .1) (omega arith)
 
 -- another region is another table
-region-set : (f : Hardware) (us : List TableRule) (ts : List Table) (k : ℕ) (t : Table) → tablesOk f us ts ≡ true
-    → set (regionPieces us ts) k (region (getD us k uuidRule .size) t) ≡ regionPieces us (set ts k t)
+region-set : (f : Hardware) (us : List TableRule) (ts : List Table) (rest : List Octets) (k : ℕ) (t : Table) → tablesOk f us ts ≡ true → k < length us
+    → set (regionPieces us ts rest) k (region (getD us k uuidRule .size) t) ≡ regionPieces us (set ts k t) rest
 unfolding tablesOk regionPieces
-region-set f [] ts k t e = refl
-region-set f (u ∷ us) [] k t e = refl
-region-set f (u ∷ us) (x ∷ ts) zero t e = refl
-region-set f (u ∷ us) (x ∷ ts) (suc k) t e = ap {B = List Octets} (λ l. region (u .size) x ∷ l) (region-set f us ts k t (and-true (tableOk u f x) _ e .1))
+region-set f [] ts rest k t e l = absurd (omega arith)
+region-set f (u ∷ us) [] rest k t e l = no-way (sym e)
+region-set f (u ∷ us) (x ∷ ts) rest zero t e l = refl
+region-set f (u ∷ us) (x ∷ ts) rest (suc k) t e l =
+    ap {B = List Octets} (λ l. region (u .size) x ∷ l) (region-set f us ts rest k t (and-true (tableOk u f x) _ e .1) (omega arith))
 
 -- table k is piece 5 + k
 abbrev pub past5 : ℕ → ℕ
@@ -137,14 +138,18 @@ module _ (s : Octets) (i : ℕ) (r : Ready s i) (k : ℕ) (l : k < 6) where
   -- its region is the piece from 5 on
   region-here : getD (pieces (controllerOf s i) (openAt s i)) (past5 k) [] ≡ region (ruleAt k .size) (tableOf (controllerOf s i .host) k)
   unfolding pieces ruleAt tableOf
-  region-here = region-get (controllerOf s i .radio .hardware) tableRules (controllerOf s i .host .tables) k tables-fine (rw rules-six l)
+  region-here =
+      region-get (controllerOf s i .radio .hardware) tableRules (controllerOf s i .host .tables) (advertisingPieces (controllerOf s i .host .advertising)) k
+      tables-fine (rw rules-six l)
 
   -- another region there is another table
   region-put : (t : Table)
       → set (pieces (controllerOf s i) (openAt s i)) (past5 k) (region (ruleAt k .size) t) ≡ pieces
       (withHost (controllerOf s i) (withTable (controllerOf s i .host) k t)) (openAt s i)
   unfolding pieces ruleAt withHost withTable settingsOf
-  region-put t = rw (region-set (controllerOf s i .radio .hardware) tableRules (controllerOf s i .host .tables) k t tables-fine)
+  region-put t =
+      let rest = advertisingPieces (controllerOf s i .host .advertising) in
+      rw (region-set (controllerOf s i .radio .hardware) tableRules (controllerOf s i .host .tables) rest k t tables-fine (rw rules-six l))
 
   -- its octets are canonical: the region of the table that they mean
   pub region-at : part s (tablePlace i k) (4 + ruleAt k .size * 32) ≡ region (ruleAt k .size) (tableOf (controllerOf s i .host) k)

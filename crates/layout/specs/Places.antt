@@ -21,9 +21,12 @@ use Rattle.octets.specs.Parts.{part, placeAt}
 abbrev pub base : ℕ → ℕ
 base i = 4 + Lengths.block * i
 
--- the sizes of a block's pieces: present, open command, hardware, settings, name, six tables
+-- the sizes of a block's pieces: present, open command, hardware, settings, name, six tables, schedule, Adv_Data and Scan_Rsp of five instances
 unfoldable pub sizes : List ℕ
-sizes = 1 ∷ 5 ∷ 13 ∷ 13 ∷ 260 ∷ 548 ∷ 804 ∷ 1156 ∷ 740 ∷ 228 ∷ 260 ∷ []
+sizes =
+    1 ∷ 5 ∷ 13 ∷ 13 ∷ 260 ∷ 548 ∷ 804 ∷ 1156 ∷ 740 ∷ 228 ∷ 260 ∷ 23
+    ∷ 32 ∷ 32 ∷ 32 ∷ 32 ∷ 32
+    ∷ 32 ∷ 32 ∷ 32 ∷ 32 ∷ 32 ∷ []
 
 -- where piece k of block i begins
 unfoldable pub placeOf : ℕ → ℕ → ℕ

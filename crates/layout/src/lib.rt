@@ -5,20 +5,25 @@ pub mod places;
 ghost use mathlib.Core.Path.{_≡_};
 ghost use mathlib.Core.Bool.{false, true};
 ghost use mathlib.Core.Option.{none, some};
-ghost use Prim.Native.Nat.{_<_, _≤_};
-ghost use lib.ListN.{length};
+ghost use Prim.Native.Nat.{_+_, _-_, _*_, _<_, _≤_};
+ghost use lib.ListN.{getD, length};
 ghost use Rattle.model.specs.Lengths as Lengths;
 ghost use Rattle.model.specs.Octets.{u16, usedPart};
+ghost use Rattle.model.specs.Advertising.{dataOf};
 ghost use Rattle.model.specs.State.{flag, namePart, plugged, settingsOf, withHost, withName};
+ghost use Rattle.model.specs.Commands.{words};
 ghost use Rattle.model.specs.Hub.{withOpen};
-ghost use Rattle.model.specs.Layout.{decode, encode};
+ghost use Rattle.model.specs.Layout.{dataBack, dataPart, decode, encode, schedulePart, settingsPart};
 ghost use Rattle.model.specs.Meanings.{stateOk};
+ghost use Rattle.octets.specs.Parts.{part, writeAt};
+ghost use Rattle.layout.specs.Advertising.{clearedSlot, clearedSlots, fiveFrom, withInstanceData};
 ghost use Rattle.layout.specs.Places.{Ready, base, controllerOf, emptied, hardwareHead, placeOf, presentAt, putController, settingsHead};
 ghost use Rattle.layout.specs.Places.{tablePlace, withClock};
-ghost use Rattle.rules.specs.Effects.{withSettings};
+ghost use Rattle.rules.specs.Effects.{withSettings, withTurns};
 use model::Hardware;
 use model::HostSettings;
 use model::RadioSettings;
+use model::Schedule;
 use model::Settings;
 use model::Timer;
 use model::lengths;
@@ -149,17 +154,25 @@ fn settings_head(m: Settings) -> [u8; 7]
     [p, k, d, b, l, (n % 256) as u8, (n / 256 % 256) as u8]
 }
 
+// Writes the settings of m from a place on.
+fn write_settings(s: &mut [u8], at: usize, m: Settings)
+    requires { ⌜ (at + 13 ≤ length (now s)) × (length (m .radio .staticAddress) ≡ 6) ⌝ }
+    ensures { λ _. ⌜ now (s .exit) ≡ writeAt (now (s .entry)) at (settingsPart m) ⌝ }
+{
+    let a = settings_head(m);
+    let r = m.radio;
+    let staticAddress = r.staticAddress;
+    octets::copy_into(s, at, &a);
+    octets::copy_into(s, at + 7, &staticAddress);
+}
+
 // Gives the controller at index i the settings of m; its hardware stays.
 pub fn put_settings(s: &mut [u8], i: u64, m: Settings)
     requires { ⌜ Ready (now s) i ⌝ }
     ensures { λ _. ⌜ now (s .exit) ≡ encode (putController (decode (now (s .entry))) i (withSettings (controllerOf (now (s .entry)) i) m)) ⌝ }
 {
     let b = block_place(i);
-    let a = settings_head(m);
-    let r = m.radio;
-    let staticAddress = r.staticAddress;
-    octets::copy_into(s, b + places::POWERED, &a);
-    octets::copy_into(s, b + places::STATIC_ADDRESS, &staticAddress);
+    write_settings(s, b + places::POWERED, m);
 }
 
 // The code of the command under way at index i, 0 where there is none.
@@ -259,4 +272,171 @@ pub fn fill_block(s: &mut [u8], i: u64, f: Hardware)
     octets::copy_into(s, b + places::VERSION, &h);
     octets::copy_into(s, b + places::PUBLIC_ADDRESS, &a);
     octets::put8(s, b + places::LOW_ENERGY, l);
+}
+
+// Advertising
+
+// Five numbers of two octets from a place on.
+fn five_at(s: &[u8], at: usize) -> [u16; 5]
+    requires { ⌜ at + 10 ≤ length (now s) ⌝ }
+    ensures { λ r. ⌜ r ≡ fiveFrom (now (s .entry)) at ⌝ }
+{
+    let a = octets::u16_at(s, at) as u16;
+    let b = octets::u16_at(s, at + 2) as u16;
+    let c = octets::u16_at(s, at + 4) as u16;
+    let d = octets::u16_at(s, at + 6) as u16;
+    let e = octets::u16_at(s, at + 8) as u16;
+    [a, b, c, d, e]
+}
+
+// The turns of the advertising of the controller at index i.
+pub fn schedule_at(s: &[u8], i: u64) -> Schedule
+    requires { ⌜ (length (now s) ≡ Lengths.state) × (i < 4) ⌝ }
+    ensures { λ r. ⌜ r ≡ controllerOf (now (s .entry)) i .host .advertising .schedule ⌝ }
+{
+    let b = block_place(i);
+    let durations = five_at(s, b + places::ADVERTISING);
+    let timeouts = five_at(s, b + places::TIMEOUTS);
+    let left = octets::u16_at(s, b + places::LEFT) as u16;
+    Schedule {
+        durations,
+        timeouts,
+        onAir: s[b + places::ON_AIR],
+        left,
+    }
+}
+
+// Writes five numbers in two octets each from a place on.
+fn write_five(s: &mut [u8], at: usize, l: [u16; 5])
+    requires { ⌜ at + 10 ≤ length (now s) ⌝ }
+    ensures { λ _. ⌜ now (s .exit) ≡ writeAt (now (s .entry)) at (words l) ⌝ }
+{
+    let a = l[0] as u64;
+    let b = l[1] as u64;
+    let c = l[2] as u64;
+    let d = l[3] as u64;
+    let e = l[4] as u64;
+    octets::put16(s, at, a);
+    octets::put16(s, at + 2, b);
+    octets::put16(s, at + 4, c);
+    octets::put16(s, at + 6, d);
+    octets::put16(s, at + 8, e);
+}
+
+// Writes a schedule from a place on.
+fn write_schedule(s: &mut [u8], at: usize, t: Schedule)
+    requires { ⌜ at + 23 ≤ length (now s) ⌝ }
+    ensures { λ _. ⌜
+        (now (s .exit) ≡ writeAt (now (s .entry)) at (schedulePart t)) × (length (t .durations) ≡ 5) × (length (t .timeouts) ≡ 5)
+        ⌝ }
+{
+    let durations = t.durations;
+    let timeouts = t.timeouts;
+    write_five(s, at, durations);
+    write_five(s, at + 10, timeouts);
+    octets::put8(s, at + 20, t.onAir);
+    octets::put16(s, at + 21, t.left as u64);
+}
+
+// Clears the data at a place, of an instance that was there before and no longer is.
+fn clear_slot(s: &mut [u8], at: usize, before: u16, after: u16)
+    requires { ⌜ at + 32 ≤ length (now s) ⌝ }
+    ensures { λ _. ⌜ now (s .exit) ≡ clearedSlot (now (s .entry)) at before after ⌝ }
+{
+    if before != 0 {
+        if after == 0 {
+            octets::zero_fill(s, at, 32);
+        }
+    }
+}
+
+// Clears the data of the instances that were there before and no longer are, from the place of the first on.
+fn clear_slots(s: &mut [u8], at: usize, before: [u16; 5], after: [u16; 5])
+    requires { ⌜ at + 160 ≤ length (now s) ⌝ }
+    ensures { λ _. ⌜ now (s .exit) ≡ clearedSlots (now (s .entry)) at before after ⌝ }
+{
+    clear_slot(s, at, before[0], after[0]);
+    clear_slot(s, at + 32, before[1], after[1]);
+    clear_slot(s, at + 64, before[2], after[2]);
+    clear_slot(s, at + 96, before[3], after[3]);
+    clear_slot(s, at + 128, before[4], after[4]);
+}
+
+// Gives the controller at index i the settings of m and the turns of t, where it had those of `old`; data of instances that went are cleared.
+pub fn put_turns(s: &mut [u8], i: u64, m: Settings, old: Schedule, t: Schedule)
+    requires { ⌜
+        Ready (now s) i × (old ≡ controllerOf (now s) i .host .advertising .schedule)
+        ⌝ }
+    ensures { λ _. ⌜
+        now (s .exit) ≡ encode (putController (decode (now (s .entry))) i
+        (withTurns (withSettings (controllerOf (now (s .entry)) i) m) t))
+        ⌝ }
+{
+    let b = block_place(i);
+    let before = old.durations;
+    let after = t.durations;
+    write_settings(s, b + places::POWERED, m);
+    write_schedule(s, b + places::ADVERTISING, t);
+    clear_slots(s, b + places::ADV_DATA, before, after);
+    clear_slots(s, b + places::SCAN_RSP, before, after);
+}
+
+// Writes the data of an instance at a place: their length, the data, zeros behind them.
+fn write_data(s: &mut [u8], at: usize, src: &[u8])
+    requires { ⌜ (at + 32 ≤ length (now s)) × (length (now src) ≤ 31) ⌝ }
+    ensures { λ _. ⌜ now (s .exit) ≡ writeAt (now (s .entry)) at (dataPart (now (src .entry))) ⌝ }
+{
+    let n = src.len();
+    octets::put8(s, at, n as u8);
+    octets::copy_into(s, at + 1, src);
+    octets::zero_fill(s, at + 1 + n, 31 - n);
+}
+
+// Where the data of instance k lie, from the place of those of the first on.
+fn data_place(at: usize, k: u8) -> usize
+    requires { ⌜ (1 ≤ k) × (k ≤ 5) × (at ≤ Lengths.state) ⌝ }
+    ensures { λ r. ⌜ r ≡ at + 32 * (k - 1) ⌝ }
+{
+    at + 32 * (k as usize - 1)
+}
+
+// Gives the controller at index i the turns of t, and its instance k these data.
+pub fn put_instance(s: &mut [u8], i: u64, t: Schedule, k: u8, adv: &[u8], scan: &[u8])
+    requires { ⌜ Ready (now s) i × (1 ≤ k) × (k ≤ 5) × (length (now adv) ≤ 31) × (length (now scan) ≤ 31) ⌝ }
+    ensures { λ _. ⌜
+        now (s .exit) ≡ encode (putController (decode (now (s .entry))) i
+        (withInstanceData (controllerOf (now (s .entry)) i) t k (now (adv .entry)) (now (scan .entry))))
+        ⌝ }
+{
+    let b = block_place(i);
+    write_schedule(s, b + places::ADVERTISING, t);
+    write_data(s, data_place(b + places::ADV_DATA, k), adv);
+    write_data(s, data_place(b + places::SCAN_RSP, k), scan);
+}
+
+// The data of an instance at a place, where they lie: nothing is copied.
+fn data_part(s: &[u8], at: usize) -> &[u8]
+    requires { ⌜ (at + 32 ≤ length (now s)) × (getD (now s) at 0 ≤ 31) ⌝ }
+    ensures { λ r. ⌜ now r ≡ dataBack (part (now (s .entry)) at 32) ⌝ }
+{
+    let n = s[at] as usize;
+    &s[at + 1..at + 1 + n]
+}
+
+// Adv_Data of instance k of index i, where they lie.
+pub fn adv_data(s: &[u8], i: u64, k: u8) -> &[u8]
+    requires { ⌜ Ready (now s) i × (1 ≤ k) × (k ≤ 5) ⌝ }
+    ensures { λ r. ⌜ (now r ≡ dataOf (controllerOf (now (s .entry)) i .host .advertising .advData) k) × (length (now r) ≤ 31) ⌝ }
+{
+    let b = block_place(i);
+    data_part(s, data_place(b + places::ADV_DATA, k))
+}
+
+// Scan_Rsp of instance k of index i, where they lie.
+pub fn scan_rsp(s: &[u8], i: u64, k: u8) -> &[u8]
+    requires { ⌜ Ready (now s) i × (1 ≤ k) × (k ≤ 5) ⌝ }
+    ensures { λ r. ⌜ (now r ≡ dataOf (controllerOf (now (s .entry)) i .host .advertising .scanRsp) k) × (length (now r) ≤ 31) ⌝ }
+{
+    let b = block_place(i);
+    data_part(s, data_place(b + places::SCAN_RSP, k))
 }

@@ -1,4 +1,4 @@
--- The codes of the 21 commands (01, Commands).
+-- The codes of the 23 commands (01, Commands; 02, E1).
 use Prim.Native.Nat.{ℕ}
 
 -- Read Management Version Information
@@ -84,3 +84,11 @@ addDevice = 0x0033
 -- Remove Device
 abbrev pub removeDevice : ℕ
 removeDevice = 0x0034
+
+-- Add Advertising
+abbrev pub addAdvertising : ℕ
+addAdvertising = 0x003E
+
+-- Remove Advertising
+abbrev pub removeAdvertising : ℕ
+removeAdvertising = 0x003F

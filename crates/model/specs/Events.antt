@@ -48,3 +48,11 @@ deviceAdded = 0x001A
 -- Device Removed
 abbrev pub deviceRemoved : ℕ
 deviceRemoved = 0x001B
+
+-- Advertising Added
+abbrev pub advertisingAdded : ℕ
+advertisingAdded = 0x0023
+
+-- Advertising Removed
+abbrev pub advertisingRemoved : ℕ
+advertisingRemoved = 0x0024

@@ -3,6 +3,7 @@ pub mod Codes
 pub mod Events
 pub mod Lengths
 pub mod Octets
+pub mod Advertising
 pub mod State
 pub mod Answers
 pub mod Reasons
@@ -17,8 +18,10 @@ pub mod Layout
 pub mod Meanings
 pub mod Written
 pub mod Demand3
+pub mod Fairness
 pub mod Examples
 pub mod EasyErrors
 pub mod LazyPrograms
+pub mod Rotation
 pub mod Proof
 pub mod Theorems

@@ -1,5 +1,7 @@
 -- The proofs over the model.
 pub mod Tests
+pub mod Schedule
+pub mod Advertising
 pub mod EveryRow
 pub mod Invariant
 pub mod Commute
@@ -17,4 +19,9 @@ pub mod Demand3
 pub mod Keeps
 pub mod Room
 pub mod Written
+pub mod Reading
 pub mod Names
+pub mod OnAir
+pub mod Waiting
+pub mod Fairness
+pub mod InTime

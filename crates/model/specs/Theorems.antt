@@ -3,13 +3,14 @@ use Prim.Native.Nat.{ℕ, _^_, _≤_, _<_}
 use native.Mathlib.Omega.{arith}
 use mathlib.Core.Path.{_≡_, refl, sym, ap, _∙_}
 use mathlib.Core.Bool.{true, false}
-use mathlib.Core.List.{[], map}
+use mathlib.Core.List.{List, [], map}
 use mathlib.Core.Logic.{_↔_}
 use mathlib.Core.Option.{some}
 use lib.ListN.{length, drop}
 use lib.Dec.{eqb, leb, ltb, lit≤}
 use Rattle.model.specs.Lengths as Lengths
 use Rattle.model.specs.Octets.{Octets, bytes, octet, open-octets, usedPart}
+use Rattle.model.specs.Advertising.{open-advertising}
 use Rattle.model.specs.State.{Hub, PlainHub, idle, open-state}
 use Rattle.model.specs.Reasons.{open-reasons}
 use Rattle.model.specs.Tables.{open-tables}
@@ -18,15 +19,18 @@ use Rattle.model.specs.Image.{image, load, open-image, reloadedHub}
 use Rattle.model.specs.Hub.{Call, Outcome, Result, answerOf, call, callPlain, clock, command, keep, octetsOf, plug, report, save, stateOf, unplug, within}
 use Rattle.model.specs.WellFormed.{callWide, open-wellformed, plainOk, wellFormed}
 use Rattle.model.specs.Layout.{decode, encode}
-use Rattle.model.specs.Meanings.{badState, hubLoad, hubName, hubSave, laidOut, loadMeaning, loadedInto, meaning, stateOk}
-use Rattle.model.specs.Written.{NameAnswer, OneReply, Written, loadAnswer, roomOf}
+use Rattle.model.specs.Meanings.{badState, hubLoad, hubName, hubOnAir, hubSave, laidOut, loadMeaning, loadedInto, meaning, stateOk}
+use Rattle.model.specs.Written.{ReadAnswer, OneReply, Written, loadAnswer, roomOf}
 use Rattle.model.specs.Demand3.{Demand3}
+use Rattle.model.specs.Fairness.{Fairness, InTime}
 use Rattle.model.specs.Examples.{dualHardware, fullController, fullHub, fullTable, records}
 use Rattle.model.specs.Proof.Decode.{decode-encode}
 use Rattle.model.specs.Proof.Demand3.{demand3, encode-ok, idle-ok, meaning-is, state-back, state-well, taken}
+use Rattle.model.specs.Proof.InTime.{fairness, in-time}
 use Rattle.model.specs.Proof.Keeps.{keeps-state, load-refused-same, load-state, refused-same, state-exact}
 use Rattle.model.specs.Proof.Load.{load-ok}
 use Rattle.model.specs.Proof.Names.{name-answered, name-most, name-no-zero, name-same, used-ends}
+use Rattle.model.specs.Proof.OnAir.{on-air-answered, on-air-most, on-air-same}
 use Rattle.model.specs.Proof.Room.{notSave, room-state}
 use Rattle.model.specs.Proof.RoundTrip.{image-most, load-image}
 use Rattle.model.specs.Proof.SavedAgain.{saved-again}
@@ -95,7 +99,8 @@ load-is : (buffer o : Octets) (p : PlainHub) → eqb (length buffer) Lengths.sta
 unfolding hubLoad loadMeaning loadedInto
 load-is buffer o p n l = rw (n, loadMeaning, l)
 
--- A saved image loads to the state that `reloadedHub` says: power and discoverable off, no timer, clock 0, nothing open, the records in the lowest slots.
+-- A saved image loads to the state that `reloadedHub` says: power and discoverable off, no timer, clock 0, nothing open, the records in the lowest slots,
+-- no advertising.
 pub saved-image-loads : (s buffer : Octets) (room : ℕ) → stateOk s ≡ true → ltb room Lengths.largestImage ≡ false → eqb (length buffer) Lengths.state ≡ true
     → hubLoad buffer (hubSave s room .octets) ≡ record { answer = 0; octets = []; state = encode (idle (reloadedHub (decode s .plain))) }
 unfolding wellFormed
@@ -121,12 +126,12 @@ no-image-longer s room =
 
 -- the hub with all tables full is well formed
 full-valid : plainOk fullHub ≡ true
-unfolding open-octets open-state open-reasons open-tables open-image open-wellformed dualHardware records fullTable fullController fullHub
+unfolding open-octets open-advertising open-state open-reasons open-tables open-image open-wellformed dualHardware records fullTable fullController fullHub
 full-valid = refl
 
 -- its image has 16,014 octets
 full-length : length (image fullHub) ≡ Lengths.largestImage
-unfolding open-octets open-state open-reasons open-tables open-image dualHardware records fullTable fullController fullHub
+unfolding open-octets open-advertising open-state open-reasons open-tables open-image dualHardware records fullTable fullController fullHub
 full-length = refl
 
 -- One is that long: that of four controllers with all tables full.
@@ -203,7 +208,7 @@ pub no-name-longer : (s : Octets) (index which room : ℕ) → length (hubName s
 no-name-longer = name-most
 
 -- It is answered 0, 4, 5 or 6, and only with 0 anything is written.
-pub names-answered : (s : Octets) (index which room : ℕ) → NameAnswer (hubName s index which room .answer) (hubName s index which room .octets)
+pub names-answered : (s : Octets) (index which room : ℕ) → ReadAnswer (hubName s index which room .answer) (hubName s index which room .octets)
 names-answered = name-answered
 
 -- The used part of a name ends where a zero stands, or with the name.
@@ -214,3 +219,26 @@ used-part-ends = used-ends
 pub no-zero-in-a-name : (s : Octets) (index which room k : ℕ) → k < length (hubName s index which room .octets)
     → octet (hubName s index which room .octets) k ≡ 0 → ⊥
 no-zero-in-a-name = name-no-zero
+
+-- On air -----------------------------------------------------------------------------------------------------------------------------------------
+
+-- Asking what is on air changes no state.
+pub on-air-changes-nothing : (s : Octets) (index room : ℕ) → hubOnAir s index room .state ≡ s
+on-air-changes-nothing = on-air-same
+
+-- It is answered 0, 4, 5 or 6, and only with 0 anything is written.
+pub on-air-is-answered : (s : Octets) (index room : ℕ) → ReadAnswer (hubOnAir s index room .answer) (hubOnAir s index room .octets)
+on-air-is-answered = on-air-answered
+
+-- At most 65 octets are told.
+pub no-on-air-longer : (s : Octets) (index room : ℕ) → length (hubOnAir s index room .octets) ≤ 65
+no-on-air-longer = on-air-most
+
+-- FAIRNESS: with LE and power on all the time, an instance that is not taken away waits for less than one longest turn of each of the other four.
+-- While it was on air at no moment, fewer seconds have passed than that.
+pub comes-on-air : Fairness
+comes-on-air = fairness
+
+-- Once that many seconds have passed, it was on air at some moment.
+pub on-air-in-time : InTime
+on-air-in-time = in-time

@@ -88,12 +88,12 @@ pub data Written : Call → ℕ → Octets → Type 0 where
   badState : {c : Call} → Written c (numberOf BadState) []
   badArgument : {c : Call} → hasArgument c ≡ true → Written c (numberOf BadArgument) []
 
--- what is answered to a host that asks for a name, and what is written: the name's used part, or nothing
-pub data NameAnswer : ℕ → Octets → Type 0 where
-  told : {o : Octets} → NameAnswer (numberOf (Done (length o))) o
-  noRoom : NameAnswer (numberOf SmallBuffer) []
-  badState : NameAnswer (numberOf BadState) []
-  wrong : NameAnswer (numberOf BadArgument) []
+-- what is answered to a host that reads beside the calls, and what is written: what it asked for, or nothing
+pub data ReadAnswer : ℕ → Octets → Type 0 where
+  told : {o : Octets} → ReadAnswer (numberOf (Done (length o))) o
+  noRoom : ReadAnswer (numberOf SmallBuffer) []
+  badState : ReadAnswer (numberOf BadState) []
+  wrong : ReadAnswer (numberOf BadArgument) []
 
 -- what load answers: done, a state buffer of another length, or an image that it does not take
 unfoldable pub loadAnswer : ℕ → Bool

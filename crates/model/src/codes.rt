@@ -40,3 +40,7 @@ pub const LOAD_IDENTITY_KEYS: u64 = 0x0030;
 pub const ADD_DEVICE: u64 = 0x0033;
 
 pub const REMOVE_DEVICE: u64 = 0x0034;
+
+pub const ADD_ADVERTISING: u64 = 0x003E;
+
+pub const REMOVE_ADVERTISING: u64 = 0x003F;

@@ -22,3 +22,7 @@ pub const DEVICE_UNPAIRED: u64 = 0x0016;
 pub const DEVICE_ADDED: u64 = 0x001A;
 
 pub const DEVICE_REMOVED: u64 = 0x001B;
+
+pub const ADVERTISING_ADDED: u64 = 0x0023;
+
+pub const ADVERTISING_REMOVED: u64 = 0x0024;

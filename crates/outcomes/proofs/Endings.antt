@@ -10,6 +10,7 @@ use lib.Dec.{eqb}
 use Rattle.model.specs.Statuses as Statuses
 use Rattle.model.specs.Lengths as Lengths
 use Rattle.model.specs.Octets.{Octets, commandComplete, commandStatus, le32}
+use Rattle.model.specs.Advertising.{advertisingRemoved}
 use Rattle.model.specs.State.{Controller, Host, PlainHub, OpenCommand, withController, withHost, currentSettings, settingsOf}
 use Rattle.model.specs.Reasons.{Reason, statusOf, firstOf, lengthWrong}
 use Rattle.model.specs.Rules.{refuse, done, ImmediateRule, RadioRule, newSettings}
@@ -181,7 +182,8 @@ module _ (s : Octets) (i code : ℕ) (ps : Octets) (u : RadioRule) (d d′ : Oct
   -- done at once
   pub radio-done : eqb (length ps) (u .size) ≡ true → firstOf (u .beforeBusy (here .radio) ps) ≡ none → openAt s i ≡ none
       → firstOf (u .afterBusy (here .radio) ps) ≡ none → u .waits (here .radio) ps ≡ false → (s′ out : Octets) (n : ℕ) → r ≡ Done n
-      → out ≡ commandComplete i code 0 (le32 (currentSettings (settingsOf (u .effect here ps)))) ++ newSettings i here (u .effect here ps)
+      → out ≡ commandComplete i code 0 (le32 (currentSettings (settingsOf (u .effect here ps))))
+      ++ (newSettings i here (u .effect here ps) ++ advertisingRemoved i (here .host .advertising) (u .effect here ps .host .advertising))
       → length out ≡ n → n ≤ Lengths.replyBuffer → d′ ≡ writeAt d 0 out → s′ ≡ encode (putController (decode s) i (u .effect here ps))
       → Gives (radioCommand s i code ps u) r d d′ s′
   unfolding radioCommand commandOut busyOr radioBeforeBusy radioAfterBusy acted putController ended

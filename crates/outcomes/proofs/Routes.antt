@@ -17,10 +17,10 @@ use Rattle.model.specs.Hub.{callPlain, commandOut, underWay, indexOf, codeOf, p
 use Rattle.model.specs.Hub.{within, clockOut, plugOut, unplugOut, unplugged}
 use Rattle.model.specs.Image.{image}
 use Rattle.model.specs.Layout.{decode}
-use Rattle.model.specs.Meanings.{stateOk, laidOut, meaning, nameOut, hubName}
+use Rattle.model.specs.Meanings.{stateOk, laidOut, meaning, reading, hubName, hubOnAir}
 use Rattle.layout.specs.Places.{Ready, openAt, presentAt}
 use Rattle.layout.proofs.Reading.{present-controller, absent-controller}
-use Rattle.outcomes.specs.Outcomes.{ended, generalCommand, immediateCommand, radioCommand, anyCommand, reported, nameRead}
+use Rattle.outcomes.specs.Outcomes.{ended, generalCommand, immediateCommand, radioCommand, anyCommand, reported, nameRead, onAirRead}
 
 -- 1. Answer 5 -----------------------------------------------------------------------------------------------------------------------------------
 
@@ -168,19 +168,35 @@ pub save-whole : (s : Octets) (room : ℕ) → stateOk s ≡ true → Lengths.la
 unfolding call callPlain ended
 save-whole s room ok l = rw (meaning-well s (save room) ok, within-enough Lengths.largestImage room (finished (image (decode s .plain)) (decode s .plain)) l)
 
--- a name is told in the same order: what is asked of a well-formed state is the room, then the index
-name-well : (s : Octets) (i which room : ℕ) → stateOk s ≡ true
-    → hubName s i which room ≡ ended s (within Lengths.replyBuffer room (nameOut (decode s .plain) which (controllerAt (decode s .plain) i)))
-unfolding hubName ended laidOut
-name-well s i which room ok = rw (ok, hubName)
+-- what a host reads is told in the same order: of a well-formed state the room is looked at, then what was asked
+reading-well : (s : Octets) (room : ℕ) (o : Outcome) → stateOk s ≡ true → reading s room o ≡ ended s (within Lengths.replyBuffer room o)
+unfolding reading ended laidOut
+reading-well s room o ok = rw (ok, reading)
 
 -- too short a reply buffer: answer 4
+reading-small : (s : Octets) (room : ℕ) (o : Outcome) → stateOk s ≡ true → room < Lengths.replyBuffer → reading s room o ≡ ended s noRoom
+reading-small s room o ok l = reading-well s room o ok ∙ ap (ended s) (within-small Lengths.replyBuffer room o l)
+
+-- with room, what it comes to
+reading-whole : (s : Octets) (room : ℕ) (o : Outcome) → stateOk s ≡ true → Lengths.replyBuffer ≤ room → reading s room o ≡ ended s o
+reading-whole s room o ok l = reading-well s room o ok ∙ ap (ended s) (within-enough Lengths.replyBuffer room o l)
+
+-- a name, with too short a reply buffer
 pub name-small : (s : Octets) (i which room : ℕ) → stateOk s ≡ true → room < Lengths.replyBuffer → hubName s i which room ≡ ended s noRoom
-name-small s i which room ok l =
-    name-well s i which room ok ∙ ap (ended s) (within-small Lengths.replyBuffer room (nameOut (decode s .plain) which (controllerAt (decode s .plain) i)) l)
+unfolding hubName
+name-small s i which room ok l = reading-small s room _ ok l
 
 -- with room, what stands at the index tells
 pub name-whole : (s : Octets) (i which room : ℕ) → stateOk s ≡ true → Lengths.replyBuffer ≤ room → hubName s i which room ≡ nameRead s i which
-unfolding nameRead
-name-whole s i which room ok l =
-    name-well s i which room ok ∙ ap (ended s) (within-enough Lengths.replyBuffer room (nameOut (decode s .plain) which (controllerAt (decode s .plain) i)) l)
+unfolding hubName nameRead
+name-whole s i which room ok l = reading-whole s room _ ok l
+
+-- what is on air, with too short a reply buffer
+pub on-air-small : (s : Octets) (i room : ℕ) → stateOk s ≡ true → room < Lengths.replyBuffer → hubOnAir s i room ≡ ended s noRoom
+unfolding hubOnAir
+on-air-small s i room ok l = reading-small s room _ ok l
+
+-- with room, what stands at the index tells
+pub on-air-whole : (s : Octets) (i room : ℕ) → stateOk s ≡ true → Lengths.replyBuffer ≤ room → hubOnAir s i room ≡ onAirRead s i
+unfolding hubOnAir onAirRead
+on-air-whole s i room ok l = reading-whole s room _ ok l

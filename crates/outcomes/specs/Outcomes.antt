@@ -8,7 +8,7 @@ use Rattle.model.specs.Rules.{ImmediateRule, RadioRule}
 use Rattle.model.specs.Commands.{rule}
 use Rattle.model.specs.Hub.{Outcome, Result, keep, commandOut, immediateAt, radioAt, generalOut, byRule, reportOut}
 use Rattle.model.specs.Layout.{decode}
-use Rattle.model.specs.Meanings.{laidOut, nameOut}
+use Rattle.model.specs.Meanings.{laidOut, nameOut, onAirOut}
 use Rattle.layout.specs.Places.{controllerOf, openAt}
 
 -- an outcome on the state s, with the open commands as they were
@@ -38,3 +38,7 @@ reported s i status = laidOut (reportOut (decode s) i status (openAt s i))
 -- what is told of a name of the controller at an index, with room for it
 unfoldable pub nameRead : Octets → ℕ → ℕ → Result Octets
 nameRead s i which = ended s (nameOut (decode s .plain) which (controllerAt (decode s .plain) i))
+
+-- what the controller at an index has on air, with room for it
+unfoldable pub onAirRead : Octets → ℕ → Result Octets
+onAirRead s i = ended s (onAirOut (decode s .plain) (controllerAt (decode s .plain) i))

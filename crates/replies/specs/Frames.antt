@@ -1,7 +1,7 @@
 -- The model's frames in the pieces in which the code writes them, and the reply of a settings command.
 -- Assumes nothing.
 use Prim.Native.Nat.{ℕ, _+_}
-use mathlib.Core.Bool.{true, false}
+use mathlib.Core.Bool.{true, false, _&&_, not}
 use mathlib.Core.List.{[], _∷_, _++_}
 use lib.Dec.{eqb}
 use Rattle.model.specs.Events as Events
@@ -22,3 +22,8 @@ changedEvent index old new = elim (eqb old new) [ true ↦ [] | false ↦ event 
 -- what a settings command writes when it acts: a reply with Current_Settings (01, Commands, paragraph on settings), then the event (on events)
 unfoldable pub settingsReply : ℕ → ℕ → ℕ → ℕ → Octets
 settingsReply index code old new = commandComplete index code 0 (le32 new) ++ changedEvent index old new
+
+-- Advertising Removed, if instance k was there and no longer is: of the seconds of its turn before and after, 0 where it is absent
+unfoldable pub instanceRemoved : ℕ → ℕ → ℕ → ℕ → Octets
+instanceRemoved index k before after =
+    elim (not (eqb before 0) && not (not (eqb after 0))) [ true ↦ event Events.advertisingRemoved index (k ∷ []) | false ↦ [] ]

@@ -1,15 +1,18 @@
 // Replies and events, each written at a place of the reply buffer; and what a call answers.
 ghost use mathlib.Core.Path.{_≡_};
 ghost use Prim.Native.Nat.{_+_, _≤_};
+ghost use mathlib.Core.List.{_∷_, []};
 ghost use lib.ListN.{length, take};
 ghost use Rattle.model.specs.Events as Events;
 ghost use Rattle.model.specs.Octets.{le32, commandComplete, commandStatus};
 ghost use Rattle.model.specs.Octets as Octets;
+ghost use Rattle.model.specs.Advertising.{removedOf, instances};
 ghost use Rattle.octets.specs.Parts.{part, writeAt};
 ghost use Rattle.replies.specs.Frames as Frames;
 ghost use Rattle.model.specs.Answers.{numberOf, countOf};
 ghost use Rattle.model.specs.declared.Answer.the-variants.{Refused};
 use model::Answer;
+use model::Schedule;
 use model::events;
 
 // The number of an answer.
@@ -134,6 +137,71 @@ pub fn new_settings(out: &mut [u8], at: usize, index: u64, word: u64)
 {
     event_head(out, at, events::NEW_SETTINGS, index, 4);
     octets::put32(out, at + 6, word);
+}
+
+// An event about the advertising instance k, 7 octets.
+fn instance_event(out: &mut [u8], at: usize, code: u64, index: u64, k: u8)
+    requires { ⌜ at + 7 ≤ length (now out) ⌝ }
+    ensures { λ _. ⌜ now (out .exit) ≡ writeAt (now (out .entry)) at (Octets.event code index (k ∷ [])) ⌝ }
+{
+    event_head(out, at, code, index, 1);
+    octets::put8(out, at + 6, k);
+}
+
+// Advertising Added, 7 octets.
+pub fn advertising_added(reply: &mut [u8], at: usize, index: u64, k: u8)
+    requires { ⌜ at + 7 ≤ length (now reply) ⌝ }
+    ensures { λ _. ⌜ now (reply .exit) ≡ writeAt (now (reply .entry)) at (Octets.event Events.advertisingAdded index (k ∷ [])) ⌝ }
+{
+    instance_event(reply, at, events::ADVERTISING_ADDED, index, k);
+}
+
+// Advertising Removed, if instance k was there and no longer is: `before` and `after` are the seconds of its turn. Returns the place behind it.
+fn instance_removed(
+    reply: &mut [u8],
+    at: usize,
+    index: u64,
+    k: u8,
+    before: u16,
+    after: u16,
+) -> usize
+    requires { ⌜ at + 7 ≤ length (now reply) ⌝ }
+    ensures { λ r. ⌜
+        (r ≤ at + 7) × (r ≡ at + length (Frames.instanceRemoved index k before after))
+        × (now (reply .exit) ≡ writeAt (now (reply .entry)) at (Frames.instanceRemoved index k before after))
+        ⌝ }
+{
+    if before == 0 {
+        return at;
+    }
+    if after == 0 {
+        instance_event(reply, at, events::ADVERTISING_REMOVED, index, k);
+        return at + 7;
+    }
+    at
+}
+
+// Advertising Removed for each instance that was there and no longer is, ascending, at most 35 octets. Returns the place behind them.
+pub fn advertising_removed(
+    reply: &mut [u8],
+    at: usize,
+    index: u64,
+    before: Schedule,
+    after: Schedule,
+) -> usize
+    requires { ⌜ at + 35 ≤ length (now reply) ⌝ }
+    ensures { λ r. ⌜
+        (length (removedOf index before after instances) ≤ 35) × (r ≡ at + length (removedOf index before after instances))
+        × (now (reply .exit) ≡ writeAt (now (reply .entry)) at (removedOf index before after instances))
+        ⌝ }
+{
+    let b = before.durations;
+    let a = after.durations;
+    let second = instance_removed(reply, at, index, 1, b[0], a[0]);
+    let third = instance_removed(reply, second, index, 2, b[1], a[1]);
+    let fourth = instance_removed(reply, third, index, 3, b[2], a[2]);
+    let fifth = instance_removed(reply, fourth, index, 4, b[3], a[3]);
+    instance_removed(reply, fifth, index, 5, b[4], a[4])
 }
 
 // What a settings command answers when it acts: Command Complete with the settings, then New Settings if they changed. Returns the count of octets.

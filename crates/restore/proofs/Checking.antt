@@ -14,6 +14,7 @@ use Rattle.model.specs.declared.Hardware.{Hardware}
 use Rattle.model.specs.declared.Settings.{Settings}
 use Rattle.model.specs.Octets.{Octets, bit, number, octet}
 use Rattle.model.specs.State.{Controller, Table, flag, nameEnds, noTimer, shortNameEnds}
+use Rattle.model.specs.Advertising.{noAdvertising}
 use Rattle.model.specs.Reasons.{passes}
 use Rattle.model.specs.Tables.{TableRule, chop, empty, loaded, recordsOk, supportOk, tableRules, uuidRule, linkKeyRule, longTermKeyRule}
 use Rattle.model.specs.Tables.{identityKeyRule, blockedRule, deviceRule}
@@ -245,7 +246,7 @@ controller-is o =
     let name : Octets = take 260 (drop 23 o) in
     let tables : Option (Parsed (List Table)) = parseTables (r .hardware) tableRules (drop 283 o) in
     let made : List Table → Controller = λ ts. record
-    { radio = r; host = record { settings = record { timer = noTimer; bondable = bit 4 flags }; name = name; tables = ts } } in
+    { radio = r; host = record { settings = record { timer = noTimer; bondable = bit 4 flags }; name = name; tables = ts; advertising = noAdvertising } } in
     first-test (leb 283 (length o)) (controllerThen r flags name tables)
     ∙ ap (keptIf (leb 283 (length o))) (then-behind (radioOk r && (flagsOk flags && nameOk name)) made tables)
 

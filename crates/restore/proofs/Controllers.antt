@@ -13,6 +13,7 @@ use Rattle.model.specs.declared.RadioSettings.{RadioSettings}
 use Rattle.model.specs.declared.Settings.{Settings}
 use Rattle.model.specs.Octets.{Octets, bit, bytes, number}
 use Rattle.model.specs.State.{Controller, Table, hardwareOk, noTables, noTimer, plugged, withHost, withName, withTable}
+use Rattle.model.specs.Advertising.{noAdvertising}
 use Rattle.model.specs.Tables.{tableRules}
 use Rattle.model.specs.Image.{Parsed, controllerThen, flagsOk, nameOk, parseController, parseRadio, parseTables, radioOk}
 use Rattle.model.specs.WellFormed.{controllerOk, hardwareWide, tablesOk, timerOk}
@@ -64,7 +65,8 @@ settings-from image at = rw (drop-drop 7 at image, drop-drop 9 at image, drop-dr
 
 -- the controller of an image's fixed part, with a name and tables
 unfoldable pub controllerWith : Octets → Octets → List Table → Controller
-controllerWith o name ts = record { radio = parseRadio o; host = record { settings = imageSettings o .host; name = name; tables = ts } }
+controllerWith o name ts = record
+    { radio = parseRadio o; host = record { settings = imageSettings o .host; name = name; tables = ts; advertising = noAdvertising } }
 
 -- what a reader of a controller found: its fixed part, its tables, and what is behind them
 pub record OneController (o : Octets) (c : Parsed Controller) : Type 0 where
@@ -87,7 +89,7 @@ one-controller o c w e =
     let g = tested (leb 283 (length o)) _ c e in
     let a = tested (radioOk r && (flagsOk flags && nameOk name)) _ c (g .1) in
     let made : List Table → Controller = λ ts. record
-    { radio = r; host = record { settings = record { timer = noTimer; bondable = bit 4 flags }; name = name; tables = ts } } in
+    { radio = r; host = record { settings = record { timer = noTimer; bondable = bit 4 flags }; name = name; tables = ts; advertising = noAdvertising } } in
     let b = then tables (λ t. some (record { value = made (t .value); behind = t .behind })) c (a .1) in
     let p : record { value = made (b .0 .value); behind = b .0 .behind } ≡ c = cc in
     record {
@@ -103,13 +105,15 @@ one-controller o c w e =
 -- a valid controller with another name and no tables is valid
 pub bare-fine : (c : Controller) (n : Octets) → controllerOk c ≡ true → controllerOk (plugged (c .radio .hardware)) ≡ true → eqb (length n) 260
     && nameOk n ≡ true → bytes n ≡ true
-    → controllerOk (record { radio = c .radio; host = record { settings = c .host .settings; name = n; tables = noTables } }) ≡ true
+    → controllerOk (record
+    { radio = c .radio; host = record { settings = c .host .settings; name = n; tables = noTables; advertising = c .host .advertising } }) ≡ true
 unfolding plugged timerOk
 bare-fine c n e k z b =
     let f = controller-fit c e in
     let x = widths-fit c e in
     let g = controller-fit (plugged (c .radio .hardware)) k in
-    let d : Controller = record { radio = c .radio; host = record { settings = c .host .settings; name = n; tables = noTables } } in
+    let d : Controller = record
+    { radio = c .radio; host = record { settings = c .host .settings; name = n; tables = noTables; advertising = c .host .advertising } } in
     fit-controller d (record {
       radio = f .radio;
       staticAddress = f .staticAddress;
@@ -126,6 +130,7 @@ bare-fine c n e k z b =
             name = b;
             seconds = x .seconds;
           });
+      advertising = f .advertising;
     })
 
 -- a controller with tables from place k on has those in the places of the others
@@ -133,7 +138,7 @@ with-tables : (c : Controller) (k : ℕ) (ts : List Table)
     → withTables c k ts ≡ record {
       radio = c .radio;
       host = record
-          { settings = c .host .settings; name = c .host .name; tables = sets (c .host .tables) k ts };
+          { settings = c .host .settings; name = c .host .name; tables = sets (c .host .tables) k ts; advertising = c .host .advertising };
     }
 unfolding withTables withHost withTable
 with-tables c k [] = refl
@@ -148,7 +153,8 @@ all-tables xs ts e =
 
 -- six tables put into six places
 pub six-tables : (f : Hardware) (c : Controller) (ts : List Table) → tablesOk f tableRules ts ≡ true → c .host .tables ≡ noTables
-    → withTables c 0 ts ≡ record { radio = c .radio; host = record { settings = c .host .settings; name = c .host .name; tables = ts } }
+    → withTables c 0 ts ≡ record
+    { radio = c .radio; host = record { settings = c .host .settings; name = c .host .name; tables = ts; advertising = c .host .advertising } }
 unfolding tableRules noTables
 six-tables f c ts e n = with-tables c 0 ts ∙ rw (n, all-tables noTables ts (tables-many f tableRules ts e))
 
@@ -225,7 +231,8 @@ module _ (s₀ : Octets) (i : ℕ) (o : Octets) (c : Parsed Controller) (ok : st
       (controller-fit v read-fine .tables) refl ∙ y .value in
       held-put (decode s₀) i s d x t (c .value) (y .fine) (rw (b, z) at e) .state
 
--- 4. The controller at a place of an image ---------------------------------------------------------------------------------------------------------------------
+-- 4. The controller at a place of an image
+-- ---------------------------------------------------------------------------------------------------------------------
 
 -- the index is absent in a well-formed state, and at that place of the image a controller was found
 pub record Awaited (s₀ : Octets) (i : ℕ) (image : Octets) (at : ℕ) : Type 0 where

@@ -61,7 +61,8 @@ unfolding parseControllers
 none-more low l [] s e = cc
 none-more low l (x ∷ o) s e = let z : _≡_ {A = ℕ} 0 1 = cc in absurd (omega arith)
 
--- 2. The state while controllers are left --------------------------------------------------------------------------------------------------------------------------
+-- 2. The state while controllers are left
+-- --------------------------------------------------------------------------------------------------------------------------
 
 -- n controllers are left at place p of the image; with them, the hub h comes of it
 pub record Loading (image : Octets) (h : PlainHub) (s : Octets) (n p : ℕ) : Type 0 where
@@ -147,7 +148,8 @@ module _ (image : Octets) (w : bytes image ≡ true) (h : PlainHub) (s : Octets)
         zero = x .zero;
       }
 
--- 3. From an acceptable image to the hub that it gives -----------------------------------------------------------------------------------------------------------------
+-- 3. From an acceptable image to the hub that it gives
+-- -----------------------------------------------------------------------------------------------------------------
 
 -- n controllers are left at place p, whatever hub the image gives
 pub record Loads (image s : Octets) (n p : ℕ) : Type 0 where

@@ -12,12 +12,13 @@ use Rattle.model.specs.Octets.{Octets, octet, allZero}
 use Rattle.model.specs.declared.RadioSettings.{RadioSettings}
 use Rattle.model.specs.declared.Timer.{Timer}
 use Rattle.model.specs.declared.Settings.{Settings}
-use Rattle.model.specs.State.{Host, noTimer, settingsOf, withTimer, withPowered, withConnectable}
-use Rattle.model.specs.Rules.{on, setPowered, setConnectable}
+use Rattle.model.specs.Advertising.{noAdvertising, noSchedule, repowered}
+use Rattle.model.specs.State.{Host, noTimer, settingsOf, withTimer, withPowered, withConnectable, withLowEnergy, withAdvertising, withSchedule}
+use Rattle.model.specs.Rules.{on, setPowered, setConnectable, setLowEnergy}
 use Rattle.model.specs.Hub.{stepOf, ends, countdown}
 use Rattle.model.specs.WellFormed.{addressed}
 use Rattle.octets.specs.Parts.{part}
-use Rattle.rules.specs.Effects.{settingsEffect, controllerOf, settingsTimer}
+use Rattle.rules.specs.Effects.{settingsEffect, controllerOf, controllerWith, settingsTimer}
 
 -- TESTS ---------------------------------------------------------------------------------------------------------------------------------------
 
@@ -79,24 +80,50 @@ connectableTo m b = record {
 -- Set Powered off, where the timer runs; and else
 pub powered-ends : (m : Settings) (ps : Octets) (t : Timer) → t ≡ noTimer → (not (eqb (getD ps 0 0) 1) && not (eqb (m .host .timer .seconds) 0)) ≡ true
     → settingsTimer (poweredTo m (eqb (getD ps 0 0) 1)) t ≡ settingsEffect setPowered m ps
-unfolding settingsTimer settingsEffect controllerOf settingsOf setPowered withPowered withTimer on octet
+unfolding settingsTimer settingsEffect controllerOf controllerWith settingsOf setPowered withSchedule withAdvertising withPowered withTimer on octet
 powered-ends m ps t n e =
     let h : Host = controllerOf m .host in
-    rw n (sym (ap (λ (h : Host). settingsOf (record { radio = withPowered (m .radio) (on ps); host = h }))
+    rw n (sym (ap (λ (h : Host). settingsOf (record
+    { radio = withPowered (m .radio) (on ps); host = withSchedule h (repowered (on ps) (m .radio .powered) noSchedule) }))
     (taken (not (on ps) && not (eqb (m .host .timer .seconds) 0)) (withTimer h noTimer) h e)))
 
 -- where it does not run, or power goes on: the timer stays as it is
 pub powered-stays : (m : Settings) (ps : Octets) → (not (eqb (getD ps 0 0) 1) && not (eqb (m .host .timer .seconds) 0)) ≡ false
     → poweredTo m (eqb (getD ps 0 0) 1) ≡ settingsEffect setPowered m ps
-unfolding settingsEffect controllerOf settingsOf setPowered withPowered withTimer on octet
+unfolding settingsEffect controllerOf controllerWith settingsOf setPowered withSchedule withAdvertising withPowered withTimer on octet
 powered-stays m ps e =
     let h : Host = controllerOf m .host in
-    sym (ap (λ (h : Host). settingsOf (record { radio = withPowered (m .radio) (on ps); host = h }))
+    sym (ap (λ (h : Host). settingsOf (record
+    { radio = withPowered (m .radio) (on ps); host = withSchedule h (repowered (on ps) (m .radio .powered) noSchedule) }))
     (left (not (on ps) && not (eqb (m .host .timer .seconds) 0)) (withTimer h noTimer) h e))
+
+-- Set Low Energy, on or off
+pub low-energy-is : (m : Settings) (ps : Octets) → record {
+  radio =
+      record {
+        hardware = m .radio .hardware;
+        powered = m .radio .powered;
+        connectable = m .radio .connectable;
+        lowEnergy = eqb (getD ps 0 0) 1;
+        staticAddress =
+            m .radio .staticAddress;
+      };
+  host = m .host;
+} ≡ settingsEffect setLowEnergy m ps
+unfolding settingsEffect controllerOf controllerWith settingsOf setLowEnergy withLowEnergy withAdvertising on octet
+low-energy-is m ps = go (on ps)
+  where
+    go : (b : Bool) → record { radio = withLowEnergy (m .radio) (on ps); host = m .host } ≡ settingsOf
+        (record {
+          radio = withLowEnergy (m .radio) (on ps);
+          host = elim b [ true ↦ controllerOf m .host | false ↦ withAdvertising (controllerOf m .host) noAdvertising ];
+        })
+    go true = refl
+    go false = refl
 
 -- Set Connectable on, and off
 pub connectable-on : (m : Settings) (ps : Octets) → eqb (getD ps 0 0) 1 ≡ true → connectableTo m (eqb (getD ps 0 0) 1) ≡ settingsEffect setConnectable m ps
-unfolding settingsEffect controllerOf settingsOf setConnectable withConnectable withTimer on octet
+unfolding settingsEffect controllerOf controllerWith settingsOf setConnectable withConnectable withTimer on octet
 connectable-on m ps e =
     let h : Host = controllerOf m .host in
     sym (ap (λ (h : Host). settingsOf (record { radio = withConnectable (m .radio) (on ps); host = h })) (taken (on ps) h (withTimer h noTimer) e))
@@ -104,7 +131,7 @@ connectable-on m ps e =
 -- off: discoverable and its timer end too
 pub connectable-off : (m : Settings) (ps : Octets) (t : Timer) → t ≡ noTimer → eqb (getD ps 0 0) 1 ≡ false
     → settingsTimer (connectableTo m (eqb (getD ps 0 0) 1)) t ≡ settingsEffect setConnectable m ps
-unfolding settingsTimer settingsEffect controllerOf settingsOf setConnectable withConnectable withTimer on octet
+unfolding settingsTimer settingsEffect controllerOf controllerWith settingsOf setConnectable withConnectable withTimer on octet
 connectable-off m ps t n e =
     let h : Host = controllerOf m .host in
     rw n (sym (ap (λ (h : Host). settingsOf (record { radio = withConnectable (m .radio) (on ps); host = h })) (left (on ps) h (withTimer h noTimer) e)))

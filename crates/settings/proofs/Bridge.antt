@@ -1,10 +1,10 @@
 -- From what the steps of a settings command leave to what the model says of it, over plain values.
 -- Assumes nothing.
-use mathlib.Core.Path.{_≡_, refl, sym, _∙_}
+use mathlib.Core.Path.{_≡_, refl, ap, sym, _∙_}
 use Prim.Native.Nat.{ℕ, _+_, _≤_, _<_}
 use native.Mathlib.Omega.{arith}
 use mathlib.Core.Bool.{Bool, true, false}
-use mathlib.Core.List.{_++_}
+use mathlib.Core.List.{_++_, append-assoc}
 use mathlib.Core.Option.{none, some}
 use lib.ListN.{length, getD}
 use lib.Dec.{eqb}
@@ -15,15 +15,18 @@ use Rattle.model.specs.Lengths as Lengths
 use Rattle.model.specs.declared.Settings.{Settings}
 use Rattle.model.specs.declared.RadioSettings.{RadioSettings}
 use Rattle.model.specs.Octets.{Octets, octet, u16, le32, commandComplete, commandStatus}
+use Rattle.model.specs.Advertising.{advertisingRemoved}
 use Rattle.model.specs.State.{Controller, currentSettings, settingsOf, withHost, withBondable}
 use Rattle.model.specs.Reasons.{valueAbove1, statusOf, firstOf}
 use Rattle.model.specs.Rules.{refuse, done, RadioRule, on, newSettings, setPowered, setDiscoverable, setConnectable, setLowEnergy, setStaticAddress}
 use Rattle.model.specs.Immediate.{setBondable, sized, unless}
 use Rattle.model.specs.Hub.{withOpen}
+use Rattle.model.specs.WellFormed.{controllerOk}
 use Rattle.model.specs.Layout.{encode, decode}
 use Rattle.model.specs.Proof.Tests.{no-way}
 use Rattle.octets.specs.Parts.{writeAt}
 use Rattle.layout.specs.Places.{Ready, controllerOf, placeOf, putController}
+use Rattle.layout.proofs.Change.{controller-fine}
 use Rattle.layout.proofs.Open.{open-nothing, open-command}
 use Rattle.replies.specs.Answers.{Gives}
 use Rattle.replies.specs.Frames.{settingsReply, changedEvent}
@@ -34,11 +37,13 @@ use Rattle.rules.specs.declared.Decision.{Decision}
 use Rattle.rules.specs.declared.Decision.the-variants.{Refuse, Reject, Wait, Act}
 use Rattle.rules.specs.Decisions.{decision}
 use Rattle.rules.specs.Effects.{withSettings, settingsBondable, settingsEffect}
-use Rattle.rules.proofs.Ties.{refuse-fails, reject-fails, wait-passes, act-passes, bondable-only, OnlySettings}
+use Rattle.rules.proofs.Ties.{refuse-fails, reject-fails, wait-passes, act-passes, bondable-only}
 use Rattle.outcomes.specs.Outcomes.{immediateCommand, radioCommand}
 use Rattle.outcomes.proofs.Endings.{immediate-length, immediate-status, immediate-done, radio-length, radio-early, radio-busy, radio-late}
 use Rattle.outcomes.proofs.Endings.{radio-started, radio-done}
+use Rattle.settings.specs.Turns.{actedController, actedReply, scheduleOf, turnsAfter}
 use Rattle.settings.specs.Follows.{Follows, CarriesOut}
+use Rattle.settings.proofs.Turns.{Acts, acted-short, acted-turns}
 
 -- 1. The reply ------------------------------------------------------------------------------------------------------------------------------------
 
@@ -47,6 +52,19 @@ pub reply-is : (i code : ℕ) (c e : Controller) → settingsReply i code (curre
     ≡ commandComplete i code 0 (le32 (currentSettings (settingsOf e))) ++ newSettings i c e
 unfolding settingsReply changedEvent newSettings
 reply-is i code c e = refl
+
+-- the same with the turns of the advertising: Advertising Removed stands behind New Settings
+pub acted-is : (i code : ℕ) (c e : Controller) (old new : Settings) → old ≡ settingsOf c → settingsOf e ≡ new → e ≡ actedController c old new
+    → actedReply i code old new (c .host .advertising .schedule)
+    ≡ commandComplete i code 0 (le32 (currentSettings (settingsOf e)))
+    ++ (newSettings i c e ++ advertisingRemoved i (c .host .advertising) (e .host .advertising))
+unfolding actedReply advertisingRemoved
+acted-is i code c e old new eo en ee =
+    let x : settingsReply i code (currentSettings old) (currentSettings new) ≡ commandComplete i code 0 (le32 (currentSettings (settingsOf e)))
+    ++ newSettings i c e = rw (eo, ← en) (reply-is i code c e) in
+    let t : e .host .advertising .schedule ≡ turnsAfter (old .radio) (new .radio) (c .host .advertising .schedule) =
+    ap (λ (k : Controller). k .host .advertising .schedule) ee ∙ acted-turns c old new in
+    rw (x, ← t, append-assoc)
 
 -- 2. Set Bondable ---------------------------------------------------------------------------------------------------------------------------------
 
@@ -157,20 +175,17 @@ module _ (s : Octets) (i code : ℕ) (ps : Octets) (u : RadioRule) (d d′ : Oct
         radio-started s i code ps u d d′ r given big size (g .0) (open-nothing s i given o) (g .1) (g .2) n s′ k w
 
     -- done at once
-    pub ends-acted : x ≡ Act → u16 s (placeOf i 1) ≡ 0 → (s′ : Octets) → r ≡ Done (length (settingsReply i code (currentSettings old) (currentSettings new)))
-        → d′ ≡ writeAt d 0 (settingsReply i code (currentSettings old) (currentSettings new))
-        → s′ ≡ encode (putController (decode s) i (withSettings (controllerOf s i) new))
+    pub ends-acted : x ≡ Act → u16 s (placeOf i 1) ≡ 0 → (s′ : Octets) → r ≡ Done (length (actedReply i code old new (scheduleOf s i)))
+        → d′ ≡ writeAt d 0 (actedReply i code old new (scheduleOf s i))
+        → s′ ≡ encode (putController (decode s) i (actedController (controllerOf s i) old new))
         → Gives (radioCommand s i code ps u) r d d′ s′
     ends-acted e o s′ n w k =
         let g = act-passes u (controllerOf s i .radio) ps (f .decided ∙ e) in
         let c = controllerOf s i in
-        let y : settingsReply i code (currentSettings old) (currentSettings new)
-        ≡ commandComplete i code 0 (le32 (currentSettings (settingsOf (u .effect c ps)))) ++ newSettings i c (u .effect c ps) =
-        rw (f .before, ← f .after) (reply-is i code c (u .effect c ps)) in
-        let short = settings-short i code (currentSettings old) (currentSettings new) in
-        radio-done s i code ps u d d′ r given big size (g .0) (open-nothing s i given o) (g .1) (g .2) s′
-        (settingsReply i code (currentSettings old) (currentSettings new))
-        (length (settingsReply i code (currentSettings old) (currentSettings new))) n y refl (omega arith) w (k ∙ rw (f .whole))
+        let y = acted-is i code c (u .effect c ps) old new (f .before) (f .after) (f .whole) in
+        let short = acted-short i code old new (scheduleOf s i) in
+        radio-done s i code ps u d d′ r given big size (g .0) (open-nothing s i given o) (g .1) (g .2) s′ (actedReply i code old new (scheduleOf s i))
+        (length (actedReply i code old new (scheduleOf s i))) n y refl (omega arith) w (k ∙ rw (f .whole))
 
 -- a decision of another kind is past the checks before Busy
 module _ (s : Octets) (i : ℕ) (ps : Octets) (u : RadioRule) (x : Decision) (old new : Settings) (f : Follows u s i ps x old new) where
@@ -190,15 +205,16 @@ module _ (s : Octets) (i : ℕ) (ps : Octets) (u : RadioRule) (x : Decision) (ol
 
 -- from the decision and the effect by value to the end that they share
 pub concluded : (s : Octets) (i code : ℕ) (ps : Octets) (u : RadioRule) (d d′ s′ : Octets) (r : Answer) (x : Decision) (old new : Settings) (n : ℕ)
-    → OnlySettings u (controllerOf s i) ps → n ≡ u .size → length ps ≡ n → old ≡ settingsOf (controllerOf s i) → x ≡ decision u (old .radio) ps
-    → new ≡ settingsEffect u old ps
+    → Ready s i → ((c : Controller) (qs : Octets) → controllerOk c ≡ true → Acts u c qs) → n ≡ u .size → length ps ≡ n
+    → old ≡ settingsOf (controllerOf s i) → x ≡ decision u (old .radio) ps → new ≡ settingsEffect u old ps
     → CarriesOut s i code ps x old new r d d′ s′ → Gives (radioCommand s i code ps u) r d d′ s′
 unfolding settingsOf
-concluded s i code ps u d d′ s′ r x old new n only z l eo ex en all =
+concluded s i code ps u d d′ s′ r x old new n given does z l eo ex en all =
     let c = controllerOf s i in
+    let only = does c ps (controller-fine s i given) in
     let a : settingsEffect u (settingsOf c) ps ≡ new = sym (en ∙ rw eo) in
     let y : decision u (c .radio) ps ≡ x = sym (ex ∙ rw eo) in
-    all u (record { sized = l ∙ z; decided = y; before = eo; after = only .settings ∙ a; whole = only .whole ∙ rw a })
+    all u (record { sized = l ∙ z; decided = y; before = eo; after = only .settings ∙ a; whole = only .whole ∙ rw (a, eo) })
 
 -- Set Powered takes one octet of parameters, the value
 pub powered-size : 1 ≡ setPowered .size
@@ -226,6 +242,6 @@ unfolding setStaticAddress
 static-address-size = refl
 
 -- Set Static Address never waits for the radio
-pub static-address-acts : (x : RadioSettings) (ps : Octets) (d : Decision) → d ≡ decision setStaticAddress x ps → d ≡ Wait → length ps ≤ 3
+pub static-address-never-waits : (x : RadioSettings) (ps : Octets) (d : Decision) → d ≡ decision setStaticAddress x ps → d ≡ Wait → length ps ≤ 3
 unfolding setStaticAddress
-static-address-acts x ps d e w = no-way (sym (wait-passes setStaticAddress x ps (sym e ∙ w) .2))
+static-address-never-waits x ps d e w = no-way (sym (wait-passes setStaticAddress x ps (sym e ∙ w) .2))

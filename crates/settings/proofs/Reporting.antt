@@ -15,31 +15,33 @@ use Rattle.model.specs.Lengths as Lengths
 use Rattle.model.specs.declared.Settings.{Settings}
 use Rattle.model.specs.declared.RadioSettings.{RadioSettings}
 use Rattle.model.specs.Octets.{Octets, u16, le32, commandComplete, commandStatus}
+use Rattle.model.specs.Advertising.{advertisingRemoved}
 use Rattle.model.specs.State.{Controller, Hub, OpenCommand, PlainHub, controllerAt, currentSettings, settingsOf}
 use Rattle.model.specs.Reasons.{passes}
 use Rattle.model.specs.Rules.{Rule, general, immediate, radio, ImmediateRule, RadioRule, newSettings, setLowEnergy, setStaticAddress}
 use Rattle.model.specs.Commands.{Row, rows, find, rule}
 use Rattle.model.specs.Hub.{badArgument, keep, withOpen, answerOf, octetsOf, stateOf, acted, finish, finishBy, starts, startsBy, reportOut}
-use Rattle.model.specs.WellFormed.{openOk}
+use Rattle.model.specs.WellFormed.{controllerOk, openOk}
 use Rattle.model.specs.Layout.{encode, decode, opensIn, sizeOf}
 use Rattle.model.specs.Meanings.{stateOk, laidOut}
 use Rattle.model.specs.Proof.Tests.{and-true, equal, no-way}
 use Rattle.octets.specs.Parts.{part, placeAt, writeAt}
 use Rattle.layout.specs.Places.{Ready, controllerOf, openAt, placeOf, presentAt, putController, sizes}
 use Rattle.layout.proofs.Reading.{absent-open, present-controller}
+use Rattle.layout.proofs.Change.{controller-fine}
 use Rattle.layout.proofs.Open.{open-nothing, open-command}
 use Rattle.layout.proofs.Kept.{open-fine, opened-ready, opened-controller, opened-decoded}
 use Rattle.replies.specs.Answers.{Gives}
-use Rattle.replies.specs.Frames.{settingsReply}
 use Rattle.model.specs.declared.Answer.{Answer}
 use Rattle.model.specs.declared.Answer.the-variants.{Done, BadArgument}
-use Rattle.replies.proofs.Laws.{gives-written, settings-short}
-use Rattle.rules.specs.Effects.{withSettings, settingsEffect}
-use Rattle.rules.proofs.Ties.{powered-only, discoverable-only, connectable-only, low-energy-only, OnlySettings}
+use Rattle.replies.proofs.Laws.{gives-written}
+use Rattle.rules.specs.Effects.{settingsEffect}
 use Rattle.outcomes.specs.Outcomes.{ended, reported}
 use Rattle.outcomes.proofs.Endings.{ends-silent}
 use Rattle.settings.specs.Opens.{Opens, opens-powered, opens-discoverable, opens-connectable, opens-low-energy, Makes}
-use Rattle.settings.proofs.Bridge.{reply-is}
+use Rattle.settings.specs.Turns.{actedController, actedReply, scheduleOf}
+use Rattle.settings.proofs.Turns.{Acts, acted-short, powered-acts, discoverable-acts, connectable-acts, low-energy-acts}
+use Rattle.settings.proofs.Bridge.{acted-is}
 use Rattle.model.specs.Proof.Room.{length-status}
 
 -- 1. Which command can be under way ---------------------------------------------------------------------------------------------------------------
@@ -125,7 +127,7 @@ all-held = (
                                       held-immediate _ _,
                                       (
                                         held-immediate _ _,
-                                        (held-immediate _ _, tt),
+                                        (held-immediate _ _, (held-immediate _ _, (held-immediate _ _, tt))),
                                       ),
                                     ),
                                   ),
@@ -179,12 +181,12 @@ waiting s i g o e =
     let a : openOk (some (controllerOf s i)) (some o) ≡ true = rw e at (open-fine s i g) in
     waiting-by (controllerOf s i .radio) (o .code) (o .params) (rule (o .code)) refl (and-true (starts (controllerOf s i .radio) o) _ a .0)
 
--- it changes the settings alone
-opens-only : (code : ℕ) (u : RadioRule) (c : Controller) (ps : Octets) → Opens code u → OnlySettings u c ps
-opens-only code u c ps opens-powered = powered-only c ps
-opens-only code u c ps opens-discoverable = discoverable-only c ps
-opens-only code u c ps opens-connectable = connectable-only c ps
-opens-only code u c ps opens-low-energy = low-energy-only c ps
+-- it changes the settings, and the turns of the advertising as they tell
+opens-acts : (code : ℕ) (u : RadioRule) (c : Controller) (ps : Octets) → controllerOk c ≡ true → Opens code u → Acts u c ps
+opens-acts code u c ps e opens-powered = powered-acts c ps e
+opens-acts code u c ps e opens-discoverable = discoverable-acts c ps e
+opens-acts code u c ps e opens-connectable = connectable-acts c ps e
+opens-acts code u c ps e opens-low-energy = low-energy-acts c ps e
 
 -- 2. What it makes of the settings ----------------------------------------------------------------------------------------------------------------
 
@@ -289,6 +291,15 @@ nothing-fine c = refl
 pub cleared-ready : (s s₁ : Octets) (i : ℕ) → Ready s i → s₁ ≡ encode (withOpen (decode s) i none) → Ready s₁ i
 cleared-ready s s₁ i g e = rw e (opened-ready s i g none (nothing-fine (controllerOf s i)))
 
+-- the controller there is as it was
+cleared-controller : (s s₁ : Octets) (i : ℕ) → Ready s i → s₁ ≡ encode (withOpen (decode s) i none) → controllerOf s₁ i ≡ controllerOf s i
+cleared-controller s s₁ i g e = rw e (opened-controller s i g none (nothing-fine (controllerOf s i)))
+
+-- so the settings that were read before are those that are there
+pub cleared-settings : (s s₁ : Octets) (i : ℕ) (old : Settings) → Ready s i → s₁ ≡ encode (withOpen (decode s) i none)
+    → old ≡ settingsOf (controllerOf s i) → old ≡ settingsOf (controllerOf s₁ i)
+cleared-settings s s₁ i old g e eo = eo ∙ rw (cleared-controller s s₁ i g e)
+
 -- no controller is there, so nothing is under way: 6
 pub report-absent : (s d : Octets) (i status : ℕ) → stateOk s ≡ true → presentAt s i ≡ false → Gives (reported s i status) BadArgument d d s
 unfolding answerOf octetsOf stateOf
@@ -334,9 +345,10 @@ open-as s i at code g ec ea n = rw (ec, ea) (open-read s i g (λ q. n (ec ∙ q)
 -- a report of status 0 where o is under way
 acted-gives : (s : Octets) (i : ℕ) (o : OpenCommand) (u : RadioRule) (d d′ s′ : Octets) (r : Answer) → openAt s i ≡ some o → rule (o .code) ≡ some (radio u)
     → controllerAt (decode s .plain) i ≡ some (controllerOf s i) → (out : Octets)
-    → out ≡ commandComplete i (o .code) 0 (le32 (currentSettings (settingsOf (u .effect (controllerOf s i) (o .params))))) ++ newSettings i
-    (controllerOf s i) (u .effect (controllerOf s i) (o .params))
-    → r ≡ Done (length out) → length out ≤ 23 → Lengths.replyBuffer ≤ length d → d′ ≡ writeAt d 0 out
+    → out ≡ commandComplete i (o .code) 0 (le32 (currentSettings (settingsOf (u .effect (controllerOf s i) (o .params)))))
+    ++ (newSettings i (controllerOf s i) (u .effect (controllerOf s i) (o .params))
+    ++ advertisingRemoved i (controllerOf s i .host .advertising) (u .effect (controllerOf s i) (o .params) .host .advertising))
+    → r ≡ Done (length out) → length out ≤ 58 → Lengths.replyBuffer ≤ length d → d′ ≡ writeAt d 0 out
     → s′ ≡ encode (putController (withOpen (decode s) i none) i (u .effect (controllerOf s i) (o .params))) → Gives (reported s i 0) r d d′ s′
 unfolding reported laidOut keep acted answerOf octetsOf stateOf putController withOpen
 acted-gives s i o u d d′ s′ r eq known here out y er short big w k =
@@ -344,16 +356,11 @@ acted-gives s i o u d d′ s′ r eq known here out y er short big w k =
     rw (eq, out-done (decode s) i 0 o refl, finish-is (decode s .plain) i o u (controllerOf s i) known here, er)
     (gives-written _ (Done (length out)) d d′ s′ refl (rw y) (rw y at l) (w ∙ rw y) k)
 
--- the reply and the state after the two writes
-reply-of : (i code : ℕ) (c e : Controller) (old new : Settings) → old ≡ settingsOf c → settingsOf e ≡ new
-    → settingsReply i code (currentSettings old) (currentSettings new) ≡ commandComplete i code 0 (le32 (currentSettings (settingsOf e))) ++ newSettings i c e
-reply-of i code c e old new eo en = rw (eo, ← en) (reply-is i code c e)
-
--- to clear the open command and then write the settings is one change of the hub
-state-of : (s s₁ s′ : Octets) (i : ℕ) → Ready s i → (e : Controller) (new : Settings) → s₁ ≡ encode (withOpen (decode s) i none)
-    → s′ ≡ encode (putController (decode s₁) i (withSettings (controllerOf s₁ i) new)) → e ≡ withSettings (controllerOf s i) new
+-- to clear the open command and then write the settings and turns is one change of the hub
+state-of : (s s₁ s′ : Octets) (i : ℕ) → Ready s i → (e : Controller) (old new : Settings) → s₁ ≡ encode (withOpen (decode s) i none)
+    → s′ ≡ encode (putController (decode s₁) i (actedController (controllerOf s₁ i) old new)) → e ≡ actedController (controllerOf s i) old new
     → s′ ≡ encode (putController (withOpen (decode s) i none) i e)
-state-of s s₁ s′ i g e new e₁ es ee =
+state-of s s₁ s′ i g e old new e₁ es ee =
     let fin = nothing-fine (controllerOf s i) in
     es ∙ rw (e₁, opened-decoded s i g none fin, opened-controller s i g none fin, ee)
 
@@ -367,23 +374,23 @@ makes-is code s at c old new u ps all op eo ep = sym (all u op ∙ rw (eo, ep))
 pub report-acted : (s s₁ s′ d d′ : Octets) (i at code : ℕ) (r : Answer) (old new : Settings) → Ready s i → Lengths.replyBuffer ≤ length d
     → code ≡ u16 s (placeOf i 1) → (code ≡ 0 → ⊥)
     → old ≡ settingsOf (controllerOf s i) → at ≡ placeOf i 1 + 2 → Makes code s at old new → s₁ ≡ encode (withOpen (decode s) i none)
-    → r ≡ Done (length (settingsReply i code (currentSettings old) (currentSettings new)))
-    → d′ ≡ writeAt d 0 (settingsReply i code (currentSettings old) (currentSettings new))
-    → s′ ≡ encode (putController (decode s₁) i (withSettings (controllerOf s₁ i) new)) → Gives (reported s i 0) r d d′ s′
+    → r ≡ Done (length (actedReply i code old new (scheduleOf s₁ i))) → d′ ≡ writeAt d 0 (actedReply i code old new (scheduleOf s₁ i))
+    → s′ ≡ encode (putController (decode s₁) i (actedController (controllerOf s₁ i) old new)) → Gives (reported s i 0) r d d′ s′
 unfolding openOf
 report-acted s s₁ s′ d d′ i at code r old new g big ec n eo ea all e₁ er ed es =
     let c = controllerOf s i in
+    let t = scheduleOf s i in
     let o = openOf code (part s at (sizeOf (rule code))) in
     let eq : openAt s i ≡ some o = open-as s i at code g ec ea n in
     let w : Waiting code = waiting s i g o eq in
-    let only = opens-only code (w .by) c (o .params) (w .opens) in
+    let acts = opens-acts code (w .by) c (o .params) (controller-fine s i g) (w .opens) in
     let m = makes-is code s at c old new (w .by) (o .params) all (w .opens) eo (ap (λ k. part s at k) (size-is code (w .by) (w .known))) in
     let d₁ = w .by .effect c (o .params) in
-    let es₁ : d₁ ≡ withSettings c new = only .whole ∙ ap (λ (x : Settings). withSettings c x) m in
-    let en : settingsOf d₁ ≡ new = only .settings ∙ m in
-    acted-gives s i o (w .by) d d′ s′ r eq (w .known) (present-controller s i g) (settingsReply i code (currentSettings old) (currentSettings new))
-    (reply-of i code c d₁ old new eo en) er
-    (settings-short i code (currentSettings old) (currentSettings new)) big ed (state-of s s₁ s′ i g d₁ new e₁ es es₁)
+    let es₁ : d₁ ≡ actedController c old new = acts .whole ∙ rw (m, eo) in
+    let en : settingsOf d₁ ≡ new = acts .settings ∙ m in
+    let ct : scheduleOf s₁ i ≡ t = ap (λ (k : Controller). k .host .advertising .schedule) (cleared-controller s s₁ i g e₁) in
+    acted-gives s i o (w .by) d d′ s′ r eq (w .known) (present-controller s i g) (actedReply i code old new t)
+    (acted-is i code c d₁ old new eo en es₁) (er ∙ rw ct) (acted-short i code old new t) big (ed ∙ rw ct) (state-of s s₁ s′ i g d₁ old new e₁ es es₁)
 
 -- the open command of an index lies within the state
 pub open-within : (i at : ℕ) → i < 4 → at ≡ placeOf i 1 → at + 5 ≤ Lengths.state

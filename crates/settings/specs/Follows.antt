@@ -14,16 +14,17 @@ use Rattle.replies.specs.Answers.{Gives}
 use Rattle.model.specs.declared.Answer.{Answer}
 use Rattle.rules.specs.declared.Decision.{Decision}
 use Rattle.rules.specs.Decisions.{decision}
-use Rattle.rules.specs.Effects.{withSettings}
 use Rattle.outcomes.specs.Outcomes.{radioCommand}
+use Rattle.settings.specs.Turns.{actedController}
 
--- at index i of the state s, the parameters ps have the rule's length, d is what it decides, and it turns the settings `old` into `new`
+-- at index i of the state s, the parameters ps have the rule's length, d is what it decides, and it turns the settings `old` into `new`; the turns of the
+-- advertising change as these tell
 pub record Follows (u : RadioRule) (s : Octets) (i : ℕ) (ps : Octets) (d : Decision) (old new : Settings) : Type 0 where
   pub sized : length ps ≡ u .size
   pub decided : decision u (controllerOf s i .radio) ps ≡ d
   pub before : old ≡ settingsOf (controllerOf s i)
   pub after : settingsOf (u .effect (controllerOf s i) ps) ≡ new
-  pub whole : u .effect (controllerOf s i) ps ≡ withSettings (controllerOf s i) new
+  pub whole : u .effect (controllerOf s i) ps ≡ actedController (controllerOf s i) old new
 
 -- what the command of any such rule comes to, by the answer r, the reply buffer before and after, and the state that is left
 abbrev pub CarriesOut : Octets → ℕ → ℕ → Octets → Decision → Settings → Settings → Answer → Octets → Octets → Octets → Type 0

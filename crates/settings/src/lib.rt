@@ -6,8 +6,8 @@ ghost use lib.ListN.{length};
 ghost use Rattle.model.specs.Codes as Codes;
 ghost use Rattle.model.specs.Lengths as Lengths;
 ghost use Rattle.model.specs.Octets.{u16};
-ghost use Rattle.model.specs.State.{currentSettings};
-ghost use Rattle.model.specs.Rules.{setConnectable, setDiscoverable, setLowEnergy, setPowered, setStaticAddress};
+ghost use Rattle.model.specs.State.{currentSettings, settingsOf};
+ghost use Rattle.model.specs.Rules.{sameBool, setConnectable, setDiscoverable, setLowEnergy, setPowered, setStaticAddress};
 ghost use Rattle.model.specs.Immediate.{setBondable};
 ghost use Rattle.model.specs.Layout.{decode, encode};
 ghost use Rattle.model.specs.Meanings.{stateOk};
@@ -21,7 +21,10 @@ ghost use Rattle.rules.specs.Effects.{withSettings};
 ghost use Rattle.outcomes.specs.Outcomes.{radioCommand, reported, immediateCommand};
 ghost use Rattle.settings.specs.Follows.{CarriesOut, UnlessBusy};
 ghost use Rattle.settings.specs.Opens.{Makes};
+ghost use Rattle.settings.specs.Turns.{actedController, actedReply, scheduleOf, turnsAfter};
 use model::Answer;
+use model::RadioSettings;
+use model::Schedule;
 use model::Settings;
 use model::codes;
 use model::statuses;
@@ -29,8 +32,21 @@ use rules::Decision;
 
 // The ways to end
 
-// A command acts: the settings `old` become `new`, and the reply tells them.
-fn apply(
+// The reply of a command that acts: the settings `old` become `new`. Returns the count of octets.
+fn tell(reply: &mut [u8], index: u64, code: u64, old: Settings, new: Settings) -> usize
+    requires { ⌜ 23 ≤ length (now reply) ⌝ }
+    ensures { λ r. ⌜
+        (r ≡ length (settingsReply index code (currentSettings old) (currentSettings new)))
+        × (now (reply .exit) ≡ writeAt (now (reply .entry)) 0 (settingsReply index code (currentSettings old) (currentSettings new)))
+        ⌝ }
+{
+    let before = rules::current_settings(old);
+    let after = rules::current_settings(new);
+    replies::settings_reply(reply, index, code, before, after)
+}
+
+// A command acts on the settings alone: `old` become `new`, and the reply tells them.
+fn apply_settings(
     state: &mut [u8],
     index: u64,
     code: u64,
@@ -45,11 +61,79 @@ fn apply(
         × (now (state .exit) ≡ encode (putController (decode (now (state .entry))) index (withSettings (controllerOf (now (state .entry)) index) new)))
         ⌝ }
 {
-    let before = rules::current_settings(old);
-    let after = rules::current_settings(new);
     layout::put_settings(state, index, new);
-    let count = replies::settings_reply(reply, index, code, before, after);
+    let count = tell(reply, index, code, old, new);
     Answer::Done(count)
+}
+
+// What the turns `was` of the advertising become where the settings `old` become `new`: none without Low Energy, else as power now and before says.
+fn turns_after(was: Schedule, old: RadioSettings, new: RadioSettings) -> Schedule
+    ensures { λ t. ⌜ t ≡ turnsAfter old new was ⌝ }
+{
+    if !new.lowEnergy {
+        return turns::no_schedule();
+    }
+    turns::repower(was, new.powered, old.powered)
+}
+
+// A command acts, also on the turns of the advertising; Advertising Removed stands behind New Settings.
+fn apply_with_turns(
+    state: &mut [u8],
+    index: u64,
+    code: u64,
+    reply: &mut [u8],
+    old: Settings,
+    new: Settings,
+) -> Answer
+    requires { ⌜ Ready (now state) index × (58 ≤ length (now reply)) ⌝ }
+    ensures { λ r. ⌜
+        (r ≡ Done (length (actedReply index code old new (scheduleOf (now (state .entry)) index))))
+        × (now (reply .exit) ≡ writeAt (now (reply .entry)) 0 (actedReply index code old new (scheduleOf (now (state .entry)) index)))
+        × (now (state .exit) ≡ encode (putController (decode (now (state .entry))) index (actedController (controllerOf (now (state .entry)) index) old new)))
+        ⌝ }
+{
+    let was = layout::schedule_at(state, index);
+    let next = turns_after(was, old.radio, new.radio);
+    layout::put_turns(state, index, new, was, next);
+    let count = tell(reply, index, code, old, new);
+    let end = replies::advertising_removed(reply, count, index, was, next);
+    Answer::Done(end)
+}
+
+// Whether two settings are both on or both off.
+fn same(a: bool, b: bool) -> bool
+    ensures { λ r. ⌜ r ≡ sameBool a b ⌝ }
+{
+    if a {
+        return b;
+    }
+    !b
+}
+
+// A command acts: the settings `old` become `new`. Where power and Low Energy stay, so do the turns of the advertising.
+fn apply(
+    state: &mut [u8],
+    index: u64,
+    code: u64,
+    reply: &mut [u8],
+    old: Settings,
+    new: Settings,
+) -> Answer
+    requires { ⌜ Ready (now state) index × (58 ≤ length (now reply)) × (old ≡ settingsOf (controllerOf (now state) index)) ⌝ }
+    ensures { λ r. ⌜
+        (r ≡ Done (length (actedReply index code old new (scheduleOf (now (state .entry)) index))))
+        × (now (reply .exit) ≡ writeAt (now (reply .entry)) 0 (actedReply index code old new (scheduleOf (now (state .entry)) index)))
+        × (now (state .exit) ≡ encode (putController (decode (now (state .entry))) index (actedController (controllerOf (now (state .entry)) index) old new)))
+        ⌝ }
+{
+    let was = old.radio;
+    let is = new.radio;
+    if same(was.powered, is.powered) {
+        if same(was.lowEnergy, is.lowEnergy) {
+            return apply_settings(state, index, code, reply, old, new);
+        }
+    }
+    apply_with_turns(state, index, code, reply, old, new)
 }
 
 // Set Bondable
@@ -81,7 +165,7 @@ pub fn set_bondable(state: &mut [u8], index: u64, ps: &[u8], reply: &mut [u8]) -
     }
     let old = layout::settings_at(state, index);
     let new = rules::with_bondable(old, v == 1);
-    apply(state, index, codes::SET_BONDABLE, reply, old, new)
+    apply_settings(state, index, codes::SET_BONDABLE, reply, old, new)
 }
 
 // The commands that can be Busy
@@ -97,7 +181,10 @@ fn unless_busy(
     old: Settings,
     new: Settings,
 ) -> Answer
-    requires { ⌜ Ready (now state) index × (Lengths.replyBuffer ≤ length (now reply)) × (0 < code) × (code < 65536) × (d ≡ Wait → length (now ps) ≤ 3) ⌝ }
+    requires { ⌜
+        Ready (now state) index × (Lengths.replyBuffer ≤ length (now reply)) × (0 < code) × (code < 65536) × (d ≡ Wait → length (now ps) ≤ 3)
+        × (old ≡ settingsOf (controllerOf (now state) index))
+        ⌝ }
     ensures { λ r. ⌜ UnlessBusy (now (state .entry)) index code (now (ps .entry)) d old new r (now (reply .entry)) (now (reply .exit)) (now (state .exit)) ⌝ }
 {
     if layout::open_code(state, index) != 0 {
@@ -125,7 +212,10 @@ fn carry_out(
     old: Settings,
     new: Settings,
 ) -> Answer
-    requires { ⌜ Ready (now state) index × (Lengths.replyBuffer ≤ length (now reply)) × (0 < code) × (code < 65536) × (d ≡ Wait → length (now ps) ≤ 3) ⌝ }
+    requires { ⌜
+        Ready (now state) index × (Lengths.replyBuffer ≤ length (now reply)) × (0 < code) × (code < 65536) × (d ≡ Wait → length (now ps) ≤ 3)
+        × (old ≡ settingsOf (controllerOf (now state) index))
+        ⌝ }
     ensures { λ r. ⌜ CarriesOut (now (state .entry)) index code (now (ps .entry)) d old new r (now (reply .entry)) (now (reply .exit)) (now (state .exit)) ⌝ }
 {
     match d {

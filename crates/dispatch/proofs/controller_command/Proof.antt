@@ -51,17 +51,11 @@ same-length-6 c = search needs
 returns-3 : tie.Need-returns-3
 returns-3 c = c .before .before .before .before .devices-command .ensures
 
-information-command-requires : tie.Need-information-command-requires
-information-command-requires c κs = (
-  search needs,
-  search needs,
-  information-left _
-      (c .before .before .before .before .before .before .before .before .before .before .before .pre .2)
-      (sym (c .before .before .before .before .before .before .before .is-settings .ensures)
-      ∙ c .before .before .before .before .before .before .if1 .left)
-      (sym (c .before .before .before .before .before .is-keys .ensures) ∙ c .before .before .before .before .if2 .left)
-      (sym (c .before .before .before .is-devices .ensures) ∙ c .before .before .if3 .left),
-)
+is-advertising-requires : tie.Need-is-advertising-requires
+is-advertising-requires c κs = search needs
+
+advertising-command-requires : tie.Need-advertising-command-requires
+advertising-command-requires c κs = (search needs, search needs, sym (c .before .before .before .is-advertising .ensures) ∙ c .before .before .if4 .taken)
 
 same-length-7 : tie.Need-same-length-7
 same-length-7 c = search needs
@@ -70,7 +64,29 @@ same-length-8 : tie.Need-same-length-8
 same-length-8 c = search needs
 
 returns-4 : tie.Need-returns-4
-returns-4 c = c .before .before .before .before .information-command .ensures
+returns-4 c = c .before .before .before .before .advertising-command .ensures
+
+information-command-requires : tie.Need-information-command-requires
+information-command-requires c κs = (
+  search needs,
+  search needs,
+  information-left _
+      (c .before .before .before .before .before .before .before .before .before .before .before .before .before .pre .2)
+      (sym (c .before .before .before .before .before .before .before .before .before .is-settings .ensures)
+      ∙ c .before .before .before .before .before .before .before .before .if1 .left)
+      (sym (c .before .before .before .before .before .before .before .is-keys .ensures) ∙ c .before .before .before .before .before .before .if2 .left)
+      (sym (c .before .before .before .before .before .is-devices .ensures) ∙ c .before .before .before .before .if3 .left)
+      (sym (c .before .before .before .is-advertising .ensures) ∙ c .before .before .if4 .left),
+)
+
+same-length-9 : tie.Need-same-length-9
+same-length-9 c = search needs
+
+same-length-10 : tie.Need-same-length-10
+same-length-10 c = search needs
+
+returns-5 : tie.Need-returns-5
+returns-5 c = c .before .before .before .before .information-command .ensures
 
 pub controller-command-spec : {M : Type 1} → statement M
 controller-command-spec =
@@ -91,7 +107,12 @@ controller-command-spec =
     same-length-5
     same-length-6
     returns-3
-    information-command-requires
+    is-advertising-requires
+    advertising-command-requires
     same-length-7
     same-length-8
-    returns-4)
+    returns-4
+    information-command-requires
+    same-length-9
+    same-length-10
+    returns-5)

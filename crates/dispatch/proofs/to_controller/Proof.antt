@@ -34,22 +34,38 @@ returns-3 c =
       c .if3 .taken,
     )
 
-is-information-requires : tie.Need-is-information-requires
-is-information-requires c κs = search needs
+is-advertising-requires : tie.Need-is-advertising-requires
+is-advertising-requires c κs = search needs
 
 returns-4 : tie.Need-returns-4
 returns-4 c =
     rw (
       controller-groups,
-      ←
-          c .before .before .before .before .before .before .is-settings .ensures,
-      c .before .before .before .before .before .if1 .left,
-      ←
-          c .before .before .before .before .is-keys .ensures,
-      c .before .before .before .if2 .left,
-      ←
-          c .before .before .is-devices .ensures,
-      c .before .if3 .left,
+      ← c .before .before .before .before .before .before .before .is-settings .ensures,
+      c .before .before .before .before .before .before .if1 .left,
+      ← c .before .before .before .before .before .is-keys .ensures,
+      c .before .before .before .before .if2 .left,
+      ← c .before .before .before .is-devices .ensures,
+      c .before .before .if3 .left,
+      ← c .before .is-advertising .ensures,
+      c .if4 .taken,
+    )
+
+is-information-requires : tie.Need-is-information-requires
+is-information-requires c κs = search needs
+
+returns-5 : tie.Need-returns-5
+returns-5 c =
+    rw (
+      controller-groups,
+      ← c .before .before .before .before .before .before .before .before .is-settings .ensures,
+      c .before .before .before .before .before .before .before .if1 .left,
+      ← c .before .before .before .before .before .before .is-keys .ensures,
+      c .before .before .before .before .before .if2 .left,
+      ← c .before .before .before .before .is-devices .ensures,
+      c .before .before .before .if3 .left,
+      ← c .before .before .is-advertising .ensures,
+      c .before .if4 .left,
     ) (c .is-information .ensures)
 
 pub to-controller-spec : {M : Type 1} → statement M
@@ -62,5 +78,7 @@ to-controller-spec =
     returns-2
     is-devices-requires
     returns-3
+    is-advertising-requires
+    returns-4
     is-information-requires
-    returns-4)
+    returns-5)

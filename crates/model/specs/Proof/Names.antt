@@ -9,19 +9,18 @@ use lib.ListN.{length, take, drop}
 use lib.Seq.{getD-take, getD-drop}
 use lib.Dec.{eqb, ltb, lit<, lit≤}
 use borrow.Author.Tests.{eq-eqb}
-use Rattle.model.specs.Lengths as Lengths
 use Rattle.model.specs.Octets.{Octets, octet, usedPart}
 use Rattle.model.specs.State.{Controller, PlainHub, controllerAt, namePart, nameEnds, shortNameEnds}
 use Rattle.model.specs.Image.{nameOk}
-use Rattle.model.specs.Hub.{Outcome, Result, answerOf, keep, octetsOf, stateOf, within}
-use Rattle.model.specs.WellFormed.{controllerOk, plainOk}
-use Rattle.model.specs.Layout.{decode, encode}
-use Rattle.model.specs.Meanings.{hubName, laidOut, nameOut, stateOk}
-use Rattle.model.specs.Meanings as Meanings
-use Rattle.model.specs.Written.{NameAnswer, told, wrong, noRoom, badState}
-use Rattle.model.specs.Proof.Demand3.{state-back, state-well}
+use Rattle.model.specs.Hub.{Outcome, answerOf, octetsOf, stateOf}
+use Rattle.model.specs.WellFormed.{controllerOk}
+use Rattle.model.specs.Layout.{decode}
+use Rattle.model.specs.Meanings.{hubName, nameOut}
+use Rattle.model.specs.Written.{ReadAnswer, told, wrong}
+use Rattle.model.specs.Proof.Demand3.{state-well}
 use Rattle.model.specs.Proof.Keeps.{well-fit}
 use Rattle.model.specs.Proof.Parts.{controller-fit}
+use Rattle.model.specs.Proof.Reading.{reading-answered, reading-holds, reading-same}
 use Rattle.model.specs.Proof.Stays.{controller-ok}
 use Rattle.model.specs.Proof.Tests.{and-true, either, equal, no-way}
 
@@ -75,19 +74,12 @@ module _ (P : Octets → Type 0) (nothing : P [])
   out-holds p which none f = nothing
   out-holds p which (some c) f = either {A = Outcome} (λ o. P (octetsOf o)) (ltb which 2) (λ _. used which c (f c refl)) (λ _. nothing)
 
-  -- with the room looked at
-  hub-holds : (p : PlainHub) (i which room : ℕ) → plainOk p ≡ true → P (octetsOf (within Lengths.replyBuffer room (nameOut p which (controllerAt p i))))
-  unfolding within octetsOf
-  hub-holds p i which room e =
-      either {A = Outcome} (λ o. P (octetsOf o)) (ltb room Lengths.replyBuffer) (λ _. nothing)
-      (λ _. out-holds p which (controllerAt p i) (λ c x. controller-ok p i c e x))
-
   -- over the lent octets
   pub name-holds : (s : Octets) (i which room : ℕ) → P (hubName s i which room .octets)
-  unfolding hubName laidOut keep Meanings.badState
+  unfolding hubName
   name-holds s i which room =
-      either {A = Result Octets} (λ r. P (r .octets)) (stateOk s)
-      (λ t. hub-holds (decode s .plain) i which room (well-fit (decode s) (state-well s t) .plain)) (λ _. nothing)
+      reading-holds P s room _ nothing (λ t. out-holds (decode s .plain) which (controllerAt (decode s .plain) i)
+      (λ c x. controller-ok (decode s .plain) i c (well-fit (decode s) (state-well s t) .plain) x))
 
 -- AT MOST 248 OCTETS ARE TOLD, whatever the lent octets hold
 pub name-most : (s : Octets) (i which room : ℕ) → length (hubName s i which room .octets) ≤ 248
@@ -108,14 +100,8 @@ out-same p which (some c) = either {A = Outcome} (λ o. stateOf p o ≡ p) (ltb 
 
 -- THE STATE IS AS IT WAS
 pub name-same : (s : Octets) (i which room : ℕ) → hubName s i which room .state ≡ s
-unfolding hubName laidOut keep Meanings.badState within stateOf
-name-same s i which room =
-    either {A = Result Octets} (λ r. r .state ≡ s) (stateOk s)
-    (λ t. ap (λ (p : PlainHub). encode (record { plain = p; openCommands = decode s .openCommands })) (same-within (decode s .plain)) ∙ sym (state-back s t))
-    (λ _. refl)
-  where
-    same-within : (p : PlainHub) → stateOf p (within Lengths.replyBuffer room (nameOut p which (controllerAt p i))) ≡ p
-    same-within p = either {A = Outcome} (λ o. stateOf p o ≡ p) (ltb room Lengths.replyBuffer) (λ _. refl) (λ _. out-same p which (controllerAt p i))
+unfolding hubName
+name-same s i which room = reading-same s room _ (out-same (decode s .plain) which (controllerAt (decode s .plain) i))
 
 -- the part ends where a zero stands, or with the name
 pub used-ends : (o : Octets) → length (usedPart o) < length o → octet o (length (usedPart o)) ≡ 0
@@ -126,15 +112,12 @@ used-ends (x ∷ xs) =
     either {A = Octets} (λ u. length u < length (x ∷ xs) → octet (x ∷ xs) (length u) ≡ 0) (eqb x 0) (λ e _. equal x 0 e) (λ _ l. r (omega arith))
 
 -- what is answered, and that only answer 0 writes: by what stands at the index
-out-answers : (p : PlainHub) (which : ℕ) (x : Option Controller) → NameAnswer (answerOf (nameOut p which x)) (octetsOf (nameOut p which x))
+out-answers : (p : PlainHub) (which : ℕ) (x : Option Controller) → ReadAnswer (answerOf (nameOut p which x)) (octetsOf (nameOut p which x))
 unfolding nameOut answerOf octetsOf
 out-answers p which none = wrong
-out-answers p which (some c) = either {A = Outcome} (λ o. NameAnswer (answerOf o) (octetsOf o)) (ltb which 2) (λ _. told) (λ _. wrong)
+out-answers p which (some c) = either {A = Outcome} (λ o. ReadAnswer (answerOf o) (octetsOf o)) (ltb which 2) (λ _. told) (λ _. wrong)
 
 -- A NAME IS ANSWERED 0, 4, 5 OR 6, and only 0 writes
-pub name-answered : (s : Octets) (i which room : ℕ) → NameAnswer (hubName s i which room .answer) (hubName s i which room .octets)
-unfolding hubName laidOut keep Meanings.badState within answerOf octetsOf
-name-answered s i which room =
-    either {A = Result Octets} (λ r. NameAnswer (r .answer) (r .octets)) (stateOk s)
-    (λ _. either {A = Outcome} (λ o. NameAnswer (answerOf o) (octetsOf o)) (ltb room Lengths.replyBuffer) (λ _. noRoom)
-    (λ _. out-answers (decode s .plain) which (controllerAt (decode s .plain) i))) (λ _. badState)
+pub name-answered : (s : Octets) (i which room : ℕ) → ReadAnswer (hubName s i which room .answer) (hubName s i which room .octets)
+unfolding hubName
+name-answered s i which room = reading-answered s room _ (out-answers (decode s .plain) which (controllerAt (decode s .plain) i))

@@ -14,7 +14,7 @@ use Rattle.model.specs.State.{Controller, Hardware, Hub, OpenCommand, Pl
 use Rattle.model.specs.Reasons.{Reason, statusOf, codeUnknown, controllerAbsent, firstOf, indexNotNone, lengthWrong}
 use Rattle.model.specs.Rules.{sameBool, Immediate, ImmediateRule, RadioRule, Rule, done, general, immediate, radio, refuse}
 use Rattle.model.specs.Immediate.{addDevice, addUuid, blockDevice, loadKeys, readInformation, removeDevice, removeUuid, setBondable}
-use Rattle.model.specs.Immediate.{setLocalName, unblockDevice, unpairDevice}
+use Rattle.model.specs.Immediate.{addAdvertising, removeAdvertising, setLocalName, unblockDevice, unpairDevice}
 use Rattle.model.specs.Commands.{Row, find, rows, rule}
 use Rattle.model.specs.Hub.{Call, Outcome, RefusalForm, Result, Verdict, acted, answerOf, anyway, badArgument, badPacket, busyOr, byRule}
 use Rattle.model.specs.Hub.{byStatus, call, callPlain}
@@ -98,7 +98,7 @@ row-test t code (r ∷ rs) u e f =
 -- every row of the table of commands passes
 rows-kind : everyRow kindOk rows ≡ true
 unfolding rows everyRow kindOk addressCommand busyCommand sameBool readInformation setBondable setLocalName addUuid removeUuid loadKeys unpairDevice
-    blockDevice unblockDevice addDevice removeDevice
+    blockDevice unblockDevice addDevice removeDevice addAdvertising removeAdvertising
 rows-kind = refl
 
 -- the rule of a code passes

@@ -1,5 +1,5 @@
 -- `rules::effect_discoverable` meets its contract. The timer is that of the parameters.
-use Rattle.rules.specs.Effects.{settingsEffect, controllerOf, settingsTimer}
+use Rattle.rules.specs.Effects.{settingsEffect, controllerOf, controllerWith, settingsTimer}
 use Rattle.model.specs.State.{settingsOf, withTimer}
 use Rattle.model.specs.Octets.{octet}
 use Rattle.model.specs.Rules.{setDiscoverable}
@@ -20,7 +20,7 @@ with-timer-requires : tie.Need-with-timer-requires
 with-timer-requires c κs = search needs
 
 returns : tie.Need-returns
-unfolding settingsEffect settingsTimer controllerOf settingsOf setDiscoverable withTimer octet
+unfolding settingsEffect settingsTimer controllerOf controllerWith settingsOf setDiscoverable withTimer octet
 returns c = rw (c .with-timer .ensures, c .before .u16-at .ensures .0)
 
 pub effect-discoverable-spec : {M : Type 1} → statement M

@@ -1,5 +1,5 @@
 -- `rules::effect_static_address` meets its contract. The six octets of the parameters are the address.
-use Rattle.rules.specs.Effects.{settingsEffect, controllerOf}
+use Rattle.rules.specs.Effects.{settingsEffect, controllerOf, controllerWith}
 use Rattle.model.specs.State.{settingsOf, withStaticAddress}
 use Rattle.model.specs.Rules.{setStaticAddress}
 use Rattle.rules.proofs.Laws.{six-whole}
@@ -11,7 +11,7 @@ six-requires : tie.Need-six-requires
 six-requires c κs = search needs
 
 returns : tie.Need-returns
-unfolding settingsEffect controllerOf settingsOf setStaticAddress withStaticAddress
+unfolding settingsEffect controllerOf controllerWith settingsOf setStaticAddress withStaticAddress
 returns c = rw (c .before .before .before .six .ensures, six-whole _ (c .before .before .before .before .before .pre))
 
 pub effect-static-address-spec : {M : Type 1} → statement M

@@ -1,7 +1,7 @@
 -- `settings::finish` meets its contract.
 use mathlib.Core.Path.{ap}
 use Prim.Native.Nat.{_+_, _-_}
-use Rattle.settings.proofs.Reporting.{cleared-ready, open-within, report-acted}
+use Rattle.settings.proofs.Reporting.{cleared-ready, cleared-settings, open-within, report-acted}
 use borrow.Author.Needs.{needs}
 use Rattle.settings.proofs.finish.Statement.{statement}
 use Rattle.settings.proofs.finish.Tie as tie
@@ -27,6 +27,9 @@ apply-requires c κs = (
   cleared-ready _ _ _ (c .before .before .before .before .before .before .before .before .before .before .before .before .before .pre .0)
       (c .before .before .before .before .clear-open .ensures),
   search needs,
+  cleared-settings _ _ _ _ (c .before .before .before .before .before .before .before .before .before .before .before .before .before .pre .0)
+      (c .before .before .before .before .clear-open .ensures)
+      (c .before .before .before .before .before .before .before .before .before .settings-at .ensures),
 )
 
 same-length : tie.Need-same-length

@@ -36,8 +36,8 @@ settings-at-requires c κs = search needs
 with-bondable-requires : tie.Need-with-bondable-requires
 with-bondable-requires c κs = search needs
 
-apply-requires : tie.Need-apply-requires
-apply-requires c κs = search needs
+apply-settings-requires : tie.Need-apply-settings-requires
+apply-settings-requires c κs = search needs
 
 same-length-3 : tie.Need-same-length-3
 same-length-3 c = search needs
@@ -51,8 +51,8 @@ returns-3 c =
     (c .before .before .before .before .before .before .before .before .before .before .before .before .if1 .left)
     (c .before .before .before .before .before .before .before .before .before .before .if2 .left)
     (c .before .before .before .before .before .before .before .before .settings-at .ensures)
-    (c .before .before .before .before .before .before .before .with-bondable .ensures) (c .before .before .before .before .apply .ensures .0)
-    (c .before .before .before .before .apply .ensures .1) (c .before .before .before .before .apply .ensures .2)
+    (c .before .before .before .before .before .before .before .with-bondable .ensures) (c .before .before .before .before .apply-settings .ensures .0)
+    (c .before .before .before .before .apply-settings .ensures .1) (c .before .before .before .before .apply-settings .ensures .2)
 
 pub set-bondable-spec : {M : Type 1} → statement M
 set-bondable-spec =
@@ -67,7 +67,7 @@ set-bondable-spec =
     returns-2
     settings-at-requires
     with-bondable-requires
-    apply-requires
+    apply-settings-requires
     same-length-3
     same-length-4
     returns-3)

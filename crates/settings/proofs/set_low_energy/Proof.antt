@@ -1,6 +1,6 @@
 -- `settings::set_low_energy` meets its contract.
 use Prim.Native.Nat.{_-_}
-use Rattle.rules.proofs.Ties.{low-energy-only}
+use Rattle.settings.proofs.Turns.{low-energy-acts}
 use Rattle.settings.proofs.Bridge.{concluded, ends-length, low-energy-size}
 use borrow.Author.Needs.{needs}
 use Rattle.settings.proofs.set_low_energy.Statement.{statement}
@@ -37,7 +37,9 @@ same-length-3 c = search needs
 
 returns-2 : tie.Need-returns-2
 returns-2 c =
-    concluded _ _ _ _ _ _ _ _ _ _ _ _ _ (low-energy-only _ _) low-energy-size
+    concluded _ _ _ _ _ _ _ _ _ _ _ _ _ (c .before .before .before .before .before .before .before .before .before .before .before .before
+    .before .before .before .pre .0)
+    low-energy-acts low-energy-size
     (c .before .before .before .before .before .before .before .before .before .before .before .if1 .left)
     (c .before .before .before .before .before .before .before .before .before .settings-at .ensures)
     (c .before .before .before .before .before .before .before .before .decide-low-energy .ensures)

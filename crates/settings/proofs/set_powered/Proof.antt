@@ -1,6 +1,6 @@
 -- `settings::set_powered` meets its contract.
 use Prim.Native.Nat.{_-_}
-use Rattle.rules.proofs.Ties.{powered-only}
+use Rattle.settings.proofs.Turns.{powered-acts}
 use Rattle.settings.proofs.Bridge.{concluded, ends-length, powered-size}
 use borrow.Author.Needs.{needs}
 use Rattle.settings.proofs.set_powered.Statement.{statement}
@@ -37,7 +37,9 @@ same-length-3 c = search needs
 
 returns-2 : tie.Need-returns-2
 returns-2 c =
-    concluded _ _ _ _ _ _ _ _ _ _ _ _ _ (powered-only _ _) powered-size
+    concluded _ _ _ _ _ _ _ _ _ _ _ _ _ (c .before .before .before .before .before .before .before .before .before .before .before .before
+    .before .before .before .pre .0)
+    powered-acts powered-size
     (c .before .before .before .before .before .before .before .before .before .before .before .if1 .left)
     (c .before .before .before .before .before .before .before .before .before .settings-at .ensures)
     (c .before .before .before .before .before .before .before .before .decide-powered .ensures)

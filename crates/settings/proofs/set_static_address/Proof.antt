@@ -1,7 +1,7 @@
 -- `settings::set_static_address` meets its contract.
 use Prim.Native.Nat.{_-_}
-use Rattle.rules.proofs.Ties.{static-address-only}
-use Rattle.settings.proofs.Bridge.{concluded, ends-length, static-address-acts, static-address-size}
+use Rattle.settings.proofs.Turns.{static-address-acts}
+use Rattle.settings.proofs.Bridge.{concluded, ends-length, static-address-never-waits, static-address-size}
 use borrow.Author.Needs.{needs}
 use Rattle.settings.proofs.set_static_address.Statement.{statement}
 use Rattle.settings.proofs.set_static_address.Tie as tie
@@ -27,8 +27,14 @@ effect-static-address-requires : tie.Need-effect-static-address-requires
 effect-static-address-requires c κs = search needs
 
 carry-out-requires : tie.Need-carry-out-requires
-carry-out-requires c κs =
-    (search needs, search needs, search needs, search needs, static-address-acts _ _ _ (c .before .before .before .decide-static-address .ensures))
+carry-out-requires c κs = (
+  search needs,
+  search needs,
+  search needs,
+  search needs,
+  static-address-never-waits _ _ _ (c .before .before .before .decide-static-address .ensures),
+  c .before .before .before .before .settings-at .ensures,
+)
 
 same-length-2 : tie.Need-same-length-2
 same-length-2 c = search needs
@@ -38,7 +44,9 @@ same-length-3 c = search needs
 
 returns-2 : tie.Need-returns-2
 returns-2 c =
-    concluded _ _ _ _ _ _ _ _ _ _ _ _ _ (static-address-only _ _) static-address-size
+    concluded _ _ _ _ _ _ _ _ _ _ _ _ _ (c .before .before .before .before .before .before .before .before .before .before .before .before
+    .before .before .before .pre .0)
+    static-address-acts static-address-size
     (c .before .before .before .before .before .before .before .before .before .before .before .if1 .left)
     (c .before .before .before .before .before .before .before .before .before .settings-at .ensures)
     (c .before .before .before .before .before .before .before .before .decide-static-address .ensures)

@@ -1,4 +1,5 @@
--- `table::release_matching` meets its contract. The invariant: what is still to be freed of the table now is what was to be freed of it at first. There is an entry less each turn.
+-- `table::release_matching` meets its contract. The invariant: what is still to be freed of the table now is what was to be freed of it at first. There is
+-- an entry less each turn.
 use mathlib.Core.Path.{_≡_}
 use Prim.Native.Nat.{_≤_}
 use native.Mathlib.Omega.{arith}

@@ -1,4 +1,5 @@
--- `timer::count_down` meets its contract: a walk of its MIR, by hand. The borrow is opened, the timer that lies there is read and passed by value to `rules::countdown`, what that returns is stored in its place, and the borrow is closed at the new timer.
+-- `timer::count_down` meets its contract: a walk of its MIR, by hand. The borrow is opened, the timer that lies there is read and passed by value to
+-- `rules::countdown`, what that returns is stored in its place, and the borrow is closed at the new timer.
 -- All that the proof knows of `rules::countdown` is that it meets its contract.
 use mathlib.Core.Path.{_≡_, refl}
 use Prim.Native.Nat.{ℕ, _<_, _^_}

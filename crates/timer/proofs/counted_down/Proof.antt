@@ -1,4 +1,5 @@
--- `timer::counted_down` meets its contract: a walk of its MIR, by hand. The timer is put into a local, which is lent for a lifetime made for the call; once `count_down` has returned, the lifetime is ended, and the local is taken back at its last timer, and read.
+-- `timer::counted_down` meets its contract: a walk of its MIR, by hand. The timer is put into a local, which is lent for a lifetime made for the call;
+-- once `count_down` has returned, the lifetime is ended, and the local is taken back at its last timer, and read.
 -- All that the proof knows of `count_down` is that it meets its contract.
 use mathlib.Core.Path.{_≡_, refl, sym, ap, subst}
 use Prim.Native.Nat.{ℕ, _<_, _^_}

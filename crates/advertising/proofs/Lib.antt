@@ -1,0 +1,4 @@
+pub mod Refusals
+pub mod Adding
+pub mod Removing
+pub mod Telling

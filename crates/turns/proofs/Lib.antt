@@ -1,0 +1,9 @@
+pub mod Values
+pub mod Ring
+pub mod Changes
+pub mod Seconds
+pub mod Rounds
+pub mod Sound
+pub mod Turns
+pub mod Skipping
+pub mod Walks
