@@ -1,7 +1,7 @@
 /*
  * A small host that plays a shift: it starts from an image or fresh, plugs two controllers, powers them with a slow radio while two clients
- * interleave, loads keys, names a controller, lets the clock run, saves by write-then-rename, loads again and shows the name. Every call is printed
- * in words with its octets.
+ * interleave, loads keys, names a controller, advertises in turns while the clock runs, saves by write-then-rename, loads again and shows the name.
+ * Every call is printed in words with its octets, and after it what is on air, as the radio asks for it, where that has changed.
  *
  *     host [IMAGE [LOG]]      IMAGE is read if it is there, and written at the end; LOG gets every packet (call_log.h)
  */
@@ -13,8 +13,16 @@
 #include "call_log.h"
 #include "hub.h"
 
+enum { CONTROLLERS = 4, ON_AIR_MAX = 3 + 31 + 31 };
+
 static uint8_t state[HUB_STATE_LEN];
 static uint8_t reply[HUB_IMAGE_MAX];
+
+/* What each controller's radio sends: the octets that hub_on_air gave, none where no advertising instance is on air. */
+static struct {
+    uint8_t octets[ON_AIR_MAX];
+    size_t count;
+} sending[CONTROLLERS];
 
 static const char *answer_name(unsigned answer)
 {
@@ -37,14 +45,43 @@ static const char *frame_name(unsigned code)
         unsigned code;
         const char *name;
     } names[] = {
-        { 0x01, "Command Complete" }, { 0x02, "Command Status" },  { 0x04, "Index Added" },  { 0x05, "Index Removed" },
-        { 0x06, "New Settings" },     { 0x07, "Class Changed" },   { 0x08, "Name Changed" }, { 0x14, "Device Blocked" },
-        { 0x15, "Device Unblocked" }, { 0x16, "Device Unpaired" }, { 0x1A, "Device Added" }, { 0x1B, "Device Removed" },
+        { 0x01, "Command Complete" },  { 0x02, "Command Status" },      { 0x04, "Index Added" },  { 0x05, "Index Removed" },
+        { 0x06, "New Settings" },      { 0x07, "Class Changed" },       { 0x08, "Name Changed" }, { 0x14, "Device Blocked" },
+        { 0x15, "Device Unblocked" },  { 0x16, "Device Unpaired" },     { 0x1A, "Device Added" }, { 0x1B, "Device Removed" },
+        { 0x23, "Advertising Added" }, { 0x24, "Advertising Removed" },
     };
     for (size_t i = 0; i < sizeof names / sizeof names[0]; i++)
         if (names[i].code == code)
             return names[i].name;
     return "?";
+}
+
+/* Says what a controller's radio begins to send, or that it stops, and notes it in the log. */
+static void say_on_air(unsigned index)
+{
+    const uint8_t *octets = sending[index].octets;
+    char words[128];
+    if (sending[index].count == 0)
+        snprintf(words, sizeof words, "Controller %u: no instance is on air", index);
+    else
+        snprintf(words, sizeof words, "Controller %u: instance %u is on air, %u octets of data, %u of scan response", index, octets[0], octets[1],
+                 octets[2]);
+    printf("    %s\n", words);
+    log_line(NULL, "note", words, NULL, 0);
+}
+
+/* The radio of each controller asks what is on air, after each call; an index that is absent sends nothing. */
+static void radio_asks(void)
+{
+    static uint8_t octets[HUB_REPLY_MIN];
+    for (unsigned index = 0; index < CONTROLLERS; index++) {
+        size_t count = hub_count(hub_on_air(state, sizeof state, index, octets, sizeof octets));
+        if (count == sending[index].count && memcmp(octets, sending[index].octets, count) == 0)
+            continue;
+        memcpy(sending[index].octets, octets, count);
+        sending[index].count = count;
+        say_on_air(index);
+    }
 }
 
 /* Says what came of a call, packet by packet, and gives its answer back. */
@@ -58,6 +95,7 @@ static unsigned said(const char *what, uint64_t result)
         snprintf(head, sizeof head, "index 0x%04X, %s", (unsigned)frame.index, frame_name(frame.code));
         print_octets(head, frame.params, frame.length);
     }
+    radio_asks();
     return hub_answer(result);
 }
 
@@ -122,6 +160,7 @@ static int start(const char *path)
         fclose(file);
         result = hub_load(state, sizeof state, image, length);
         printf("Image of %zu octets: %s\n", length, answer_name(hub_answer(result)));
+        radio_asks();
         return hub_answer(result) == HUB_DONE;
     }
     result = hub_load(state, sizeof state, empty, sizeof empty);
@@ -153,7 +192,7 @@ static int save(const char *path)
 /* Unplugs what an image brought, so that each shift begins alike. */
 static void unplug_all(void)
 {
-    for (uint64_t index = 0; index < 4; index++)
+    for (uint64_t index = 0; index < CONTROLLERS; index++)
         (void)hub_unplug(state, sizeof state, index, reply, sizeof reply);
 }
 
@@ -203,6 +242,49 @@ static void set_name(const char *client, const char *name, const char *short_nam
     send(client, "names controller 0", 0x000F, 0, names, sizeof names);
 }
 
+/* An advertising instance as a client gives it; its data have no zero octets here. */
+struct instance {
+    uint8_t instance;
+    uint16_t duration, timeout;
+    const char *data, *scan;
+};
+
+/* A client adds an instance to controller 0, or changes it. */
+static void add_advertising(const char *client, const char *does, struct instance in)
+{
+    const size_t data = strlen(in.data), scan = strlen(in.scan);
+    uint8_t params[11 + 31 + 31] = { in.instance };
+    params[5] = (uint8_t)in.duration;
+    params[6] = (uint8_t)(in.duration >> 8);
+    params[7] = (uint8_t)in.timeout;
+    params[8] = (uint8_t)(in.timeout >> 8);
+    params[9] = (uint8_t)data;
+    params[10] = (uint8_t)scan;
+    memcpy(params + 11, in.data, data);
+    memcpy(params + 11 + data, in.scan, scan);
+    send(client, does, 0x003E, 0, params, 11 + data + scan);
+}
+
+/* What the plough sends in turns: its name; a service, for 5 seconds on air in all; how much salt is left, which changes. */
+static const struct instance plough = { 1, 0, 0, "\x02\x01\x06\x09\x09" "Plough 7", "" };
+static const struct instance service = { 2, 3, 5, "\x03\x03\x0D\x18", "" };
+static const struct instance salt = { 3, 4, 0, "\x0B\xFF\x0F\x01" "Salt: 80", "\x08\x09" "Line 07" };
+static const struct instance less_salt = { 3, 4, 0, "\x0B\xFF\x0F\x01" "Salt: 20", "\x08\x09" "Line 07" };
+
+/* Three instances take turns, and one is gone when its 5 seconds on air are over; the clock is read at the seconds at which a turn ends. */
+static void advertise(void)
+{
+    static const uint32_t readings[] = { 1002, 1005, 1009, 1011, 1013 };
+    struct instance sixth = salt;
+    sixth.instance = 6;
+    add_advertising("A", "adds instance 1 for turns of 2 seconds, the default", plough);
+    add_advertising("B", "adds instance 2 for turns of 3 seconds, 5 seconds on air in all", service);
+    add_advertising("B", "adds instance 3 for turns of 4 seconds", salt);
+    add_advertising("B", "adds instance 6: refused, there are 5", sixth);
+    for (size_t i = 0; i < sizeof readings / sizeof readings[0]; i++)
+        clock_reads(readings[i]);
+}
+
 /* Shows the used part of a controller's name, and of its short name. */
 static void show_names(uint64_t index)
 {
@@ -231,14 +313,17 @@ static int shift(const char *path)
     interleave();
     load_keys();
     set_name("A", "The plough on line 7", "Plough 7");
+    advertise();
     clock_reads(1029);
     clock_reads(1031);
+    add_advertising("B", "changes instance 3, which is on air: the turn passes on", less_salt);
+    send_octet("A", "removes instance 1, which is on air", 0x003F, 0, 1);
     send_octet("A", "sets controller 1 powered", 0x0005, 1, 1);
     told("Controller 1 is unplugged while its radio works", hub_unplug(state, sizeof state, 1, reply, sizeof reply));
     send("B", "reads the controllers", 0x0003, 0xFFFF, address, 0);
     if (!save(path) || (path && !start(path)))
         return 0;
-    send("B", "reads controller 0: unpowered, its keys kept", 0x0004, 0, address, 0);
+    send("B", "reads controller 0: unpowered, its keys kept, its instances gone", 0x0004, 0, address, 0);
     show_names(0);
     return 1;
 }

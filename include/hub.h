@@ -14,12 +14,20 @@
  * status. No buffer needs an alignment. The library keeps nothing between calls, so calls on different states may run at the same time.
  *
  * After HUB_BAD_STATE the state buffer is not what a call left: something else wrote it, nothing was ever loaded, or its length is not HUB_STATE_LEN,
- * which no call mends. The call has done nothing, and every call but hub_load will answer the same. Load the last image that was saved, or the empty one. What an image does not hold is lost: power,
- * discoverable, timers, the clock, commands under way. Reports for those are answered 6, so the host tells their clients itself.
+ * which no call mends. The call has done nothing, and every call but hub_load will answer the same. Load the last image that was saved, or the empty
+ * one. What an image does not hold is lost: power, discoverable, timers, the clock, advertising instances, commands under way. Reports for those
+ * commands are answered 6, so the host tells their clients itself.
  *
  * After HUB_STARTED the command waits, without a limit of time, for hub_report or hub_unplug of its index; until then Set Powered, Set Discoverable,
  * Set Connectable, Set Low Energy and Set Static Address to that index are refused Busy. A host whose radio driver gives up has to report a failure,
  * any status from 0x01 to 0x14; 0x03 is Failed, 0x08 Timeout.
+ *
+ * Clients add advertising instances 1 to 5 (0x003E) and remove them (0x003F). While a controller is powered and has any, one of them is on air, in
+ * turns that hub_clock counts; the radio driver asks hub_on_air and sends what that gives. An instance whose whole turn lies between two clock readings
+ * is never seen by the driver, yet its seconds count: read the clock each second. Power off removes the instances that have a timeout, Set Low Energy
+ * off all of them, each told by Advertising Removed behind New Settings, also in what hub_report writes. No image holds instances, so a loaded state
+ * has none; an unplug drops them with no event of theirs. After hub_load the first clock reading is a step of the whole reading: give one before the
+ * first instance is added.
  *
  * Opcodes, event codes and status codes are those of BlueZ's mgmt.h; this header defines none of its names.
  */
@@ -34,7 +42,7 @@ extern "C" {
 #endif
 
 /* The length of the state buffer; any other length is answered HUB_BAD_STATE. */
-#define HUB_STATE_LEN 16116u
+#define HUB_STATE_LEN 17488u
 /* The shortest reply buffer that every call but hub_save takes. */
 #define HUB_REPLY_MIN 1024u
 /* The shortest reply buffer that hub_save takes, and the length of the longest image. */
@@ -47,7 +55,7 @@ extern "C" {
 #define HUB_BAD_PACKET 3u   /* the packet has no whole header, or another length than its header says */
 #define HUB_SMALL_BUFFER 4u /* the reply buffer is shorter than HUB_REPLY_MIN (hub_save: than HUB_IMAGE_MAX) */
 #define HUB_BAD_STATE 5u    /* the lent state is not well formed */
-#define HUB_BAD_ARGUMENT 6u /* a wrong argument, of hub_plug, hub_unplug, hub_report, hub_clock or hub_name */
+#define HUB_BAD_ARGUMENT 6u /* a wrong argument, of hub_plug, hub_unplug, hub_report, hub_clock, hub_name or hub_on_air */
 #define HUB_BAD_IMAGE 7u    /* hub_load does not take the image */
 
 /* The answer, one of the numbers above. */
@@ -79,7 +87,7 @@ struct hub_frame {
 /*
  * Tells the packets of a reply apart: the one that begins at *position, which is moved behind it. Start at 0 and go on while it returns 1; it returns
  * 0 at the end and where the octets up to count are no whole packet, with *position as it was, so that *position == count says that all was read.
- * No octet past the count is looked at. (What hub_save writes is an image and what hub_name writes a name, not packets.)
+ * No octet past the count is looked at. (What hub_save, hub_name and hub_on_air write is an image, a name and an instance, not packets.)
  */
 static inline int hub_next_frame(const uint8_t *reply, size_t count, size_t *position, struct hub_frame *frame)
 {
@@ -111,8 +119,9 @@ uint64_t hub_command(uint8_t *state, size_t state_len, const uint8_t *packet, si
 uint64_t hub_report(uint8_t *state, size_t state_len, uint64_t index, uint64_t status, uint8_t *reply, size_t reply_len);
 
 /*
- * The clock reads so many seconds; it wraps at 2^32. Discoverable timers that end turn discoverable off and write New Settings, lowest index first.
- * The step is counted from the reading before, which is 0 after hub_load.
+ * The clock reads so many seconds; it wraps at 2^32. Discoverable timers that end turn discoverable off and write New Settings. The turns of
+ * advertising instances go on; an instance whose timeout ends is gone, and Advertising Removed is written behind that index's New Settings, lowest
+ * instance first. Indexes ascend. The step is counted from the reading before, which is 0 after hub_load; a step of n counts as n single seconds.
  * Answers 0, or 6 for a step of 2^31 seconds or more (a reading from the past), 4 or 5.
  */
 uint64_t hub_clock(uint8_t *state, size_t state_len, uint32_t reading, uint8_t *reply, size_t reply_len);
@@ -126,7 +135,8 @@ uint64_t hub_plug(uint8_t *state, size_t state_len, uint64_t index, const uint8_
                   uint16_t manufacturer, uint32_t supported, uint8_t *reply, size_t reply_len);
 
 /*
- * The controller at an index is gone. A command under way there is told Invalid Index by Command Status; behind that comes Index Removed.
+ * The controller at an index is gone, its advertising instances with it. A command under way there is told Invalid Index by Command Status; behind that
+ * comes Index Removed.
  * Answers 0, or 6 for an absent index, 4 or 5.
  */
 uint64_t hub_unplug(uint8_t *state, size_t state_len, uint64_t index, uint8_t *reply, size_t reply_len);
@@ -145,6 +155,13 @@ uint64_t hub_load(uint8_t *state, size_t state_len, const uint8_t *image, size_t
  * where no name was set. Answers 0, or 6 for an absent index or another number than 0 and 1, 4 or 5.
  */
 uint64_t hub_name(const uint8_t *state, size_t state_len, uint64_t index, uint64_t which, uint8_t *reply, size_t reply_len);
+
+/*
+ * Reads the advertising instance that is on air at an index: writes Instance (1 octet), Adv_Data_Len (1), Scan_Rsp_Len (1), Adv_Data, Scan_Rsp, at most
+ * 65 octets, none where no instance is on air. Ask after each call that could change it: hub_command or hub_report with answer 0, hub_clock; after
+ * hub_load and hub_unplug none is. Answers 0, or 6 for an absent index, 4 or 5.
+ */
+uint64_t hub_on_air(const uint8_t *state, size_t state_len, uint64_t index, uint8_t *reply, size_t reply_len);
 
 #ifdef __cplusplus
 }

@@ -5,9 +5,10 @@
  *
  * The file is of the kind that Linux writes (datalink type 2001, Linux Monitor) and holds what a Linux laptop's trace of its management sockets would:
  * each client is a control channel with its cookie; a reply goes to the client that sent the command, also where a report or an unplug brings it
- * later; an event goes to every open client, one record for each, but Device Blocked, Unblocked, Unpaired, Added and Removed not to the client that
- * sent the command (001, Device Blocked Event and the other four). Packets that are no management packets (the hub answers them 3) are left out, as on
- * Linux, and so are events while no client may have them; both are counted.
+ * later; an event goes to every open client, one record for each, but Device Blocked, Unblocked, Unpaired, Added and Removed and Advertising Added not
+ * to the client that sent the command, and Advertising Removed not to the client that sent Remove Advertising (001, Device Blocked Event and the
+ * other six): Set Powered and Set Low Energy have it told to their own client too. Packets that are no management packets (the hub answers them 3) are
+ * left out, as on Linux, and so are events while no client may have them; both are counted.
  */
 #include <errno.h>
 #include <inttypes.h>
@@ -47,7 +48,7 @@ struct waiting {
 
 static struct client clients[CLIENTS_MAX];
 static uint32_t last_cookie;
-static struct waiting sent;                 /* the command of the last line */
+static struct waiting sent;                 /* the command of the last line; its code stays for what its call wrote */
 static struct waiting started[CONTROLLERS]; /* what each controller's radio works on */
 static unsigned long line_number, left_out, unread;
 static FILE *out;
@@ -182,10 +183,12 @@ static uint32_t reply_cookie(uint32_t caller, const uint8_t *packet)
     return cookie;
 }
 
-/* Whether document 001 keeps an event from the client that sent the command. */
-static int for_others(unsigned code)
+/* Whether document 001 keeps an event from the client that sent a command; Advertising Removed only from that of Remove Advertising. */
+static int for_others(unsigned code, unsigned command)
 {
-    return (code >= 0x0014 && code <= 0x0016) || code == 0x001A || code == 0x001B;
+    if (code == 0x0024)
+        return command == 0x003F;
+    return (code >= 0x0014 && code <= 0x0016) || code == 0x001A || code == 0x001B || code == 0x0023;
 }
 
 /* An event, to every client that may have it. */
@@ -194,7 +197,7 @@ static void event(uint64_t time, uint32_t caller, const uint8_t *packet, size_t 
     int readers = 0;
     for (int i = 0; i < CLIENTS_MAX; i++) {
         uint32_t cookie = clients[i].cookie;
-        if (cookie == 0 || (cookie == caller && for_others(le16(packet))))
+        if (cookie == 0 || (cookie == caller && for_others(le16(packet), sent.code)))
             continue;
         write_packet(time, CONTROL_EVENT, cookie, packet, count);
         readers++;

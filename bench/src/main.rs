@@ -5,13 +5,16 @@
 //! each call, so the plain hub is timed with a plain test of the same octets. The line also tells both times without the test: ours is
 //! what a call takes more than a save without room, which looks at the state and does nothing else.
 //!
-//! The records of a state differ in the first octet of their identity, in the last, or at random in all.
+//! The records of a state differ in the first octet of their identity, in the last, or at random in all. The clock is timed besides on hubs with 20
+//! advertising instances, by steps up to the longest, beside plain Rust over the same lent octets, which walks turn by turn: steps above 60 seconds
+//! have a line with both times and no ratio.
 
 mod cases;
 #[path = "../../tests/compare/src/library.rs"]
 mod library;
 mod plain;
 mod states;
+mod turns;
 
 use cases::Case;
 use compare::Target;
@@ -53,17 +56,27 @@ fn data() -> Vec<Data> {
     all
 }
 
-/// The least of some rounds' nanoseconds for one turn of each: the turns of a round follow each other, so that a slow moment hits all of them.
-fn least<const N: usize>(mut turns: [&mut dyn FnMut(); N]) -> [f64; N] {
+/// A hub with 20 advertising instances and no records.
+fn instances() -> Data {
+    Data { name: "instances".into(), kind: Kind::First, used: 0, state: states::advertising(turns::TIMEOUTS) }
+}
+
+/// The least of so many rounds' nanoseconds for one turn of each: the turns of a round follow each other, so that a slow moment hits all of them.
+fn least_of<const N: usize>(rounds: usize, turns: u32, mut each: [&mut dyn FnMut(); N]) -> [f64; N] {
     let mut best = [f64::INFINITY; N];
-    for _ in 0..ROUNDS {
-        for (turn, best) in turns.iter_mut().zip(&mut best) {
+    for _ in 0..rounds {
+        for (turn, best) in each.iter_mut().zip(&mut best) {
             let start = Instant::now();
-            (0..TURNS).for_each(|_| turn());
-            *best = best.min(start.elapsed().as_nanos() as f64 / f64::from(TURNS));
+            (0..turns).for_each(|_| turn());
+            *best = best.min(start.elapsed().as_nanos() as f64 / f64::from(turns));
         }
     }
     best
+}
+
+/// The least of all rounds.
+fn least<const N: usize>(each: [&mut dyn FnMut(); N]) -> [f64; N] {
+    least_of(ROUNDS, TURNS, each)
 }
 
 /// What was timed: the worst ratio with its name, and the least and the most that the test of a full state took.
@@ -74,6 +87,11 @@ struct Seen {
 }
 
 impl Seen {
+    /// Prints both times of a case that has no ratio.
+    fn times(&self, name: &str, ours: f64, theirs: f64) {
+        println!("{name}   ({ours:.0} ns beside {theirs:.0} ns, {:.1} memcmp)", ours / self.read);
+    }
+
     /// Prints the line of a case: our nanoseconds, plain Rust's, and what else there is to say.
     fn line(&mut self, name: String, ours: f64, theirs: f64, more: String) {
         let ratio = ours / theirs;
@@ -175,7 +193,7 @@ fn read() -> f64 {
     a
 }
 
-/// Every one-octet change of a full state is judged alike.
+/// Every one-octet change of a state is judged alike.
 fn judged_alike(data: &Data) {
     let mut state = data.state.clone();
     for k in 0..state.len() {
@@ -199,9 +217,12 @@ fn main() {
     let mut seen = Seen { worst: (0.0, String::new()), full: (f64::INFINITY, 0.0), read: read() };
     println!("one memcmp of a state takes {:.0} ns", seen.read);
     data.iter().for_each(|d| test(d, &mut seen));
+    test(&instances(), &mut seen);
     data.iter().for_each(|d| calls(d, &mut seen));
     data.iter().for_each(|d| load(d, &mut seen));
+    turns::all(&mut seen);
     data.iter().filter(|d| d.used == 32).for_each(judged_alike);
+    judged_alike(&instances());
     let (least, most) = seen.full;
     println!(
         "the test of a full state takes {:.1} memcmp; the slowest kind takes {:.2} times as long as the quickest",

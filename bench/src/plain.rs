@@ -1,6 +1,7 @@
-//! The same test of a state in plain Rust: what a careful engineer would write over the same octets.
+//! The same test of a state, and the same clock, in plain Rust over the same octets. The test is what a careful engineer would write. The clock walks
+//! the turns of a step one after the other, the plain way to count them: it skips no rounds, so its time grows with the step.
 
-use crate::states::{BLOCK, SIZES, STATE, WORDS};
+use crate::states::{BLOCK, DATA, DURATIONS, LEFT, ON_AIR, SCAN, SIZES, STATE, TIMEOUTS, WORDS};
 
 /// Whether lent octets are a well-formed state.
 pub fn well_formed(s: &[u8]) -> bool {
@@ -38,6 +39,36 @@ fn controller(b: &[u8]) -> bool {
         && b[291] == 0
         && open(b, bredr, le, powered, connectable, public && fixed)
         && (0..6).all(|t| table(t, &b[WORDS[t]..], bredr, le))
+        && advertising(b, powered, low_energy)
+}
+
+/// Two octets as a number.
+fn number(b: &[u8], at: usize) -> u16 {
+    u16::from_le_bytes([b[at], b[at + 1]])
+}
+
+/// The advertising instances, the one on air and its turn.
+fn advertising(b: &[u8], powered: bool, low_energy: bool) -> bool {
+    let duration = |k: usize| number(b, DURATIONS + 2 * k);
+    let any = (0..5).any(|k| duration(k) != 0);
+    let fit = (0..5).all(|k| {
+        let there = duration(k) != 0;
+        let timed = number(b, TIMEOUTS + 2 * k) != 0;
+        (!timed || (there && powered)) && [DATA, SCAN].iter().all(|at| data(&b[at + 32 * k..][..32], there))
+    });
+    let (on_air, left) = (usize::from(b[ON_AIR]), number(b, LEFT));
+    let turn = match (powered && any, on_air) {
+        (true, 1..=5) => left != 0 && left <= duration(on_air - 1),
+        (true, _) => false,
+        (false, _) => on_air == 0 && left == 0,
+    };
+    (!any || low_energy) && fit && turn
+}
+
+/// A length and its octets, zeros behind; of an instance that is absent all zero.
+fn data(d: &[u8], there: bool) -> bool {
+    let length = usize::from(d[0]);
+    length <= 31 && (there || length == 0) && zero(&d[1 + length..])
 }
 
 /// The open command: none, or one that would now be started.
@@ -103,4 +134,113 @@ fn same(t: usize, r: &[u8], q: &[u8]) -> bool {
         2 => r[..7] == q[..7] && r[8] == q[8],
         _ => r[..7] == q[..7],
     }
+}
+
+/// The clock reads so many seconds: the number that a call gives. Timers are counted down, and turns walked one after the other.
+pub fn clock(s: &mut [u8], reading: u32, reply: &mut [u8]) -> u64 {
+    if !well_formed(s) {
+        return 5;
+    }
+    if reply.len() < 1024 {
+        return 4;
+    }
+    let step = reading.wrapping_sub(u32::from_le_bytes(s[..4].try_into().unwrap()));
+    if step >= 1 << 31 {
+        return 6;
+    }
+    s[..4].copy_from_slice(&reading.to_le_bytes());
+    let mut count = 0;
+    for (i, b) in s[4..].chunks_exact_mut(BLOCK).enumerate().filter(|(_, b)| b[0] == 1) {
+        count += timer(b, i, step, &mut reply[count..]);
+        count += turns(b, i, step, &mut reply[count..]);
+    }
+    (count as u64) << 8
+}
+
+/// Writes an event, and gives its length.
+fn event(code: u8, index: usize, parameters: &[u8], reply: &mut [u8]) -> usize {
+    let length = 6 + parameters.len();
+    reply[..6].copy_from_slice(&[code, 0, index as u8, 0, parameters.len() as u8, 0]);
+    reply[6..length].copy_from_slice(parameters);
+    length
+}
+
+/// The discoverable timer: one that ends turns discoverable off and writes New Settings.
+fn timer(b: &mut [u8], i: usize, step: u32, reply: &mut [u8]) -> usize {
+    let left = u32::from(number(b, 24));
+    let ends = left != 0 && left <= step;
+    if left > step {
+        b[24..26].copy_from_slice(&((left - step) as u16).to_le_bytes());
+    }
+    if !ends {
+        return 0;
+    }
+    b[24..26].fill(0);
+    b[21] = 0;
+    let fixed = !zero(&b[26..32]) && zero(&b[13..19]);
+    let low = b[19] | b[20] << 1 | b[22] << 4 | b[9] & 0x80;
+    event(6, i, &[low, b[23] << 1 | u8::from(fixed) << 7, 0, 0], reply)
+}
+
+/// The instance above, and 1 above 5.
+fn above(k: usize) -> usize {
+    if k == 5 {
+        1
+    } else {
+        k + 1
+    }
+}
+
+/// The turns of a controller: each is as long as its seconds left, its timeout or the step lets it be. Writes Advertising Removed of those that went.
+fn turns(b: &mut [u8], i: usize, mut step: u32, reply: &mut [u8]) -> usize {
+    let (mut durations, mut timeouts) = ([0u32; 6], [0u32; 6]);
+    for k in 1..6 {
+        durations[k] = u32::from(number(b, DURATIONS + 2 * k - 2));
+        timeouts[k] = u32::from(number(b, TIMEOUTS + 2 * k - 2));
+    }
+    let (mut on_air, mut left) = (usize::from(b[ON_AIR]), u32::from(number(b, LEFT)));
+    while on_air != 0 && step != 0 {
+        let timed = timeouts[on_air] != 0;
+        let run = if timed { left.min(step).min(timeouts[on_air]) } else { left.min(step) };
+        step -= run;
+        left -= run;
+        if timed {
+            timeouts[on_air] -= run;
+            if timeouts[on_air] == 0 {
+                (durations[on_air], left) = (0, 0);
+            }
+        }
+        if left == 0 {
+            (on_air, left) = passed_on(&durations, on_air);
+        }
+    }
+    b[ON_AIR] = on_air as u8;
+    b[LEFT..LEFT + 2].copy_from_slice(&(left as u16).to_le_bytes());
+    (1..6).fold(0, |count, k| count + settled(b, i, k, durations[k], timeouts[k], &mut reply[count..]))
+}
+
+/// The next instance that is there, from one on round to itself, and its whole turn; none where there is none.
+fn passed_on(durations: &[u32; 6], from: usize) -> (usize, u32) {
+    let mut k = above(from);
+    while durations[k] == 0 && k != from {
+        k = above(k);
+    }
+    if durations[k] == 0 {
+        (0, 0)
+    } else {
+        (k, durations[k])
+    }
+}
+
+/// Keeps what the turns left of an instance; one that went is cleared, with its event.
+fn settled(b: &mut [u8], i: usize, k: usize, duration: u32, timeout: u32, reply: &mut [u8]) -> usize {
+    let went = duration == 0 && number(b, DURATIONS + 2 * k - 2) != 0;
+    b[TIMEOUTS + 2 * k - 2..][..2].copy_from_slice(&(timeout as u16).to_le_bytes());
+    if !went {
+        return 0;
+    }
+    b[DURATIONS + 2 * k - 2..][..2].fill(0);
+    b[DATA + 32 * (k - 1)..][..32].fill(0);
+    b[SCAN + 32 * (k - 1)..][..32].fill(0);
+    event(0x24, i, &[k as u8], reply)
 }

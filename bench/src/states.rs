@@ -1,11 +1,28 @@
 //! States laid out by hand (docs/STATE-LAYOUT.md): so many controllers, so many records of a kind in every table of each.
 
-pub const STATE: usize = 16116;
-pub const BLOCK: usize = 4028;
+pub const STATE: usize = 17488;
+pub const BLOCK: usize = 4371;
 /// Record sizes of the six tables, in their order.
 pub const SIZES: [usize; 6] = [17, 25, 36, 23, 7, 8];
 /// Where the word of each table stands in a block.
 pub const WORDS: [usize; 6] = [292, 840, 1644, 2800, 3540, 3768];
+
+/// Where advertising begins in a block, and where its parts stand: durations and timeouts of five instances, two octets each, the one on air, the
+/// seconds left of its turn, and five times a length and 31 octets of data, then of scan response.
+pub const ADVERTISING: usize = 4028;
+pub const DURATIONS: usize = 4028;
+pub const TIMEOUTS: usize = 4038;
+pub const ON_AIR: usize = 4048;
+pub const LEFT: usize = 4049;
+pub const DATA: usize = 4051;
+pub const SCAN: usize = 4211;
+
+/// Durations and timeouts of five instances in seconds; a duration of 0 is an instance that is absent.
+#[derive(Clone, Copy)]
+pub struct Times {
+    pub durations: [u16; 5],
+    pub timeouts: [u16; 5],
+}
 
 /// The octets that records of a table share, a UUID's or, of the first six, an address's.
 const SAME: [u8; 16] =
@@ -23,10 +40,10 @@ pub enum Kind {
 pub const KINDS: [(&str, Kind); 3] = [("first", Kind::First), ("last", Kind::Last), ("random", Kind::Random)];
 
 /// Numbers at random, the same in every run (splitmix64).
-struct Numbers(u64);
+pub struct Numbers(pub u64);
 
 impl Numbers {
-    fn next(&mut self) -> u64 {
+    pub fn next(&mut self) -> u64 {
         self.0 = self.0.wrapping_add(0x9E37_79B9_7F4A_7C15);
         let z = (self.0 ^ (self.0 >> 30)).wrapping_mul(0xBF58_476D_1CE4_E5B9);
         let z = (z ^ (z >> 27)).wrapping_mul(0x94D0_49BB_1331_11EB);
@@ -119,6 +136,28 @@ pub fn state(kind: Kind, used: usize) -> Vec<u8> {
                 record(t, kind, n, &mut numbers, &mut b[at + 4 + size * slot..][..size]);
             }
             b[at..at + 4].copy_from_slice(&word.to_le_bytes());
+        }
+    }
+    s
+}
+
+/// Four powered controllers without records, each with the same instances: full data, the first one on air at the start of its turn.
+pub fn advertising(times: Times) -> Vec<u8> {
+    let mut s = state(Kind::First, 0);
+    let first = times.durations.iter().position(|&d| d != 0);
+    for (i, b) in s[4..].chunks_exact_mut(BLOCK).enumerate() {
+        b[19] = 1;
+        for k in (0..5).filter(|&k| times.durations[k] != 0) {
+            b[DURATIONS + 2 * k..][..2].copy_from_slice(&times.durations[k].to_le_bytes());
+            b[TIMEOUTS + 2 * k..][..2].copy_from_slice(&times.timeouts[k].to_le_bytes());
+            for at in [DATA, SCAN] {
+                b[at + 32 * k..][..32].fill((16 * i + k + 1) as u8);
+                b[at + 32 * k] = 31;
+            }
+        }
+        if let Some(k) = first {
+            b[ON_AIR] = k as u8 + 1;
+            b[LEFT..LEFT + 2].copy_from_slice(&times.durations[k].to_le_bytes());
         }
     }
     s

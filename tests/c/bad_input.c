@@ -1,77 +1,19 @@
 /*
  * Bad input from C: each call gets exactly the number that document 01 gives, in its order (5, then 4, then 3, 6 or 7), writes nothing but a refusal's
- * one reply, and leaves the state as it was. Names are asked for right and wrong. Every buffer is lent by malloc with exactly the length that is said,
- * so that valgrind sees a step outside.
+ * one reply, and leaves the state as it was. Names are asked for right and wrong. bad_advertising.c has what is bad input of advertising.
  *
  *     bad_input [STRIDE]      lengths away from the limits only every STRIDE-th time; every one if nothing is said
  */
-#include "busy.h"
+#include "lent.h"
 
-enum { FILLER = 0xA5, LONGEST = 70000, UNKNOWN_COMMAND = 0x01, NO_RESOURCES = 0x07, INVALID_PARAMETERS = 0x0D };
+enum { LONGEST = 70000, UNKNOWN_COMMAND = 0x01, NO_RESOURCES = 0x07, INVALID_PARAMETERS = 0x0D };
 
 static uint8_t base[HUB_STATE_LEN];  /* the busy hub; commands are under way at 0, 1 and 2 */
 static uint8_t fresh[HUB_STATE_LEN]; /* a hub without controllers */
 static uint8_t image[HUB_IMAGE_MAX]; /* what the busy hub saves */
 static size_t image_length;
-static unsigned long tried, failures;
 
-static const uint8_t empty[] = { 0, 0, 0, 6, 1, 0 };
-static const uint8_t address[6] = { 0x11, 0x22, 0x33, 0x44, 0x55, 0x66 };
-static const uint8_t read_version[] = { 1, 0, 0xFF, 0xFF, 0, 0 };
 static const uint8_t version[] = { 1, 0, 0xFF, 0xFF, 6, 0, 1, 0, 0, 1, 10, 0 };
-
-/* A buffer of the caller: so many octets and no more, and what they were when they were lent. */
-struct lent {
-    uint8_t *octets, *before;
-    size_t length;
-};
-
-/* Lends so many octets: those of a pattern as far as it goes, filler behind. */
-static struct lent lend(size_t length, const uint8_t *pattern, size_t pattern_length)
-{
-    static uint8_t no_octets;
-    struct lent lent = { malloc(length), malloc(length), length };
-    if (length > 0 && (!lent.octets || !lent.before))
-        exit(EXIT_FAILURE);
-    if (length > 0) {
-        memset(lent.octets, FILLER, length);
-        if (pattern)
-            memcpy(lent.octets, pattern, pattern_length < length ? pattern_length : length);
-        memcpy(lent.before, lent.octets, length);
-    } else {
-        free(lent.octets);
-        lent.octets = &no_octets;
-    }
-    return lent;
-}
-
-static void take_back(struct lent lent)
-{
-    if (lent.length > 0)
-        free(lent.octets);
-    free(lent.before);
-}
-
-/* Whether the octets from a place on are as they were when they were lent. */
-static int untouched(const struct lent *lent, size_t from)
-{
-    return from >= lent->length || memcmp(lent->octets + from, lent->before + from, lent->length - from) == 0;
-}
-
-/* Holds a result to the number and the octets it must be; the rest of the reply and the state must be untouched. */
-static void expect(const char *what, size_t with, uint64_t result, unsigned answer, const struct lent *state, const struct lent *reply,
-                   const uint8_t *octets, size_t count)
-{
-    int right = hub_answer(result) == answer && hub_count(result) == count && hub_extra(result) == 0;
-    right = right && untouched(state, 0) && (!reply || untouched(reply, count));
-    right = right && (count == 0 || memcmp(reply->octets, octets, count) == 0);
-    tried++;
-    if (right)
-        return;
-    failures++;
-    printf("%s (%zu): answer %u and not %u, %zu octets and not %zu, or octets that are not as they must be\n", what, with, hub_answer(result), answer,
-           hub_count(result), count);
-}
 
 /* Command Status of index 0. */
 static void status_reply(uint8_t *to, unsigned code, unsigned status)
@@ -137,19 +79,6 @@ static void try_packet_length(size_t length)
     }
 }
 
-/* All calls but load with arguments that are wrong wherever they can be, all answered alike. */
-static void try_all_wrong(const char *what, size_t with, const struct lent *state, const struct lent *reply, unsigned answer)
-{
-    uint8_t *s = state->octets, *r = reply->octets;
-    expect(what, with, hub_command(s, state->length, read_version, 5, r, reply->length), answer, state, reply, NULL, 0);
-    expect(what, with, hub_report(s, state->length, 9, 99, r, reply->length), answer, state, reply, NULL, 0);
-    expect(what, with, hub_clock(s, state->length, 999, r, reply->length), answer, state, reply, NULL, 0);
-    expect(what, with, hub_plug(s, state->length, 9, address, 5, 9, 15, 0, r, reply->length), answer, state, reply, NULL, 0);
-    expect(what, with, hub_unplug(s, state->length, 9, r, reply->length), answer, state, reply, NULL, 0);
-    expect(what, with, hub_save(s, state->length, r, reply->length), answer, state, reply, NULL, 0);
-    expect(what, with, hub_name(s, state->length, 9, 9, r, reply->length), answer, state, reply, NULL, 0);
-}
-
 /* A state buffer of a wrong length, and one of the right length that is not well formed: 5, whatever else is wrong. */
 static void try_states(void)
 {
@@ -195,18 +124,12 @@ static void try_reply_length(size_t length)
     if (length > 0)
         memset(reply.octets, FILLER, length);
     expect("name", length, hub_name(s, HUB_STATE_LEN, 0, 2, r, length), small, &state, &reply, NULL, 0);
+    expect("on air", length, hub_on_air(s, HUB_STATE_LEN, 4, r, length), small, &state, &reply, NULL, 0);
+    expect("none on air", length, hub_on_air(s, HUB_STATE_LEN, 2, r, length), fits ? HUB_DONE : HUB_SMALL_BUFFER, &state, &reply, NULL, 0);
     expect("save", length, hub_save(s, HUB_STATE_LEN, r, length), saves ? HUB_DONE : HUB_SMALL_BUFFER, &state, &reply, image, saves ? image_length : 0);
     take_back(reply);
     take_back(state);
 }
-
-/* Numbers of 64 bits, some right in their lowest 8, 16 or 32. */
-static const uint64_t numbers[] = {
-    0, 1, 2, 3, 4, 5, 0x14, 0x15, 0x7F, 0x80, 0xFF, 0x100, 0x101, 0xFFFF, 0x10000, 0x10001, 0x7FFFFFFF, 0x80000000, 0xFFFFFFFF, 0x100000000,
-    0x100000001, 0x100000002, 0x7FFFFFFFFFFFFFFF, 0x8000000000000000, 0x8000000000000001, 0xFFFFFFFFFFFFFFFE, 0xFFFFFFFFFFFFFFFF
-};
-
-enum { NUMBERS = sizeof numbers / sizeof numbers[0] };
 
 /* A name: 6 for an index that is not there and for a number above 1; else the letters before the first zero, however many stand behind it. */
 static void try_names(const uint8_t *hub)

@@ -1,6 +1,7 @@
 /*
- * The library with nothing but itself: no C library, no start files, two functions supplied here. A fresh hub is loaded, tells its version, and refuses
- * an image; the program ends by a system call with the number of octets of the version's reply, 12, or with what went wrong.
+ * The library with nothing but itself: no C library, no start files, two functions supplied here. A fresh hub is loaded, tells its version and that
+ * nothing is on air, and refuses an image; the program ends by a system call with the number of octets of the version's reply, 12, or with what
+ * went wrong.
  *
  *     gcc -ffreestanding -nostdlib -static bare.c libhub.a
  */
@@ -40,6 +41,8 @@ static unsigned run(void)
         return 101;
     if (hub_answer(hub_plug(state, sizeof state, 3, address, 6, 9, 15, 0x0281, reply, sizeof reply)) != HUB_DONE)
         return 102;
+    if (hub_on_air(state, sizeof state, 3, reply, HUB_REPLY_MIN) != HUB_DONE)
+        return 105;
     result = hub_save(state, sizeof state, reply, sizeof reply);
     if (hub_answer(result) != HUB_DONE || hub_answer(hub_load(state, sizeof state, reply, hub_count(result))) != HUB_DONE)
         return 103;

@@ -36,6 +36,9 @@ static_assert(sizeof(struct mgmt_ltk_info) == 36, "long term key");
 static_assert(sizeof(struct mgmt_irk_info) == 23, "identity resolving key");
 static_assert(sizeof(struct mgmt_addr_info) == 7, "address and type");
 static_assert(sizeof(struct mgmt_cp_add_device) == 8, "Add Device");
+static_assert(sizeof(struct mgmt_cp_add_advertising) == 11, "Add Advertising");
+static_assert(sizeof(struct mgmt_cp_remove_advertising) == 1, "Remove Advertising");
+static_assert(sizeof(struct mgmt_ev_advertising_added) == 1, "Advertising Added");
 
 static uint8_t state[HUB_STATE_LEN], reply[HUB_REPLY_MIN];
 
@@ -52,6 +55,23 @@ static uint64_t send_mode(uint16_t opcode, uint16_t index, uint16_t length, uint
     packet.header.len = length;
     packet.mode.val = value;
     return hub_command(state, sizeof state, (const uint8_t *)&packet, MGMT_HDR_SIZE + (size_t)length, reply, sizeof reply);
+}
+
+/* Adds an advertising instance of three octets of data to controller 0. */
+static uint64_t send_advertising(uint8_t instance)
+{
+    static const uint8_t data[3] = { 2, 1, 6 };
+    uint8_t packet[MGMT_HDR_SIZE + sizeof(struct mgmt_cp_add_advertising) + sizeof data];
+    struct mgmt_hdr header = { MGMT_OP_ADD_ADVERTISING, 0, sizeof packet - MGMT_HDR_SIZE };
+    struct mgmt_cp_add_advertising params;
+    memset(&params, 0, sizeof params);
+    params.instance = instance;
+    params.duration = 3;
+    params.adv_data_len = sizeof data;
+    memcpy(packet, &header, sizeof header);
+    memcpy(packet + sizeof header, &params, sizeof params);
+    memcpy(packet + sizeof header + sizeof params, data, sizeof data);
+    return hub_command(state, sizeof state, packet, sizeof packet, reply, sizeof reply);
 }
 
 /* Whether the reply begins with an event for a command with a status; Command Complete and Command Status begin alike. */
@@ -81,6 +101,11 @@ int main(void)
     right = right && tells(MGMT_EV_CMD_STATUS, 0, MGMT_OP_SET_CONNECTABLE, MGMT_STATUS_BUSY);
     right = right && hub_answer(hub_report(state, sizeof state, 0, MGMT_STATUS_SUCCESS, reply, sizeof reply)) == HUB_DONE;
     right = right && tells(MGMT_EV_CMD_COMPLETE, 0, MGMT_OP_SET_POWERED, MGMT_STATUS_SUCCESS);
+    right = right && hub_answer(send_advertising(1)) == HUB_DONE && tells(MGMT_EV_CMD_COMPLETE, 0, MGMT_OP_ADD_ADVERTISING, MGMT_STATUS_SUCCESS);
+    right = right && reply[MGMT_HDR_SIZE + sizeof(struct mgmt_ev_cmd_complete) + 1] == MGMT_EV_ADVERTISING_ADDED;
+    right = right && hub_count(hub_on_air(state, sizeof state, 0, reply, sizeof reply)) == 3 + 3 && reply[0] == 1;
+    right = right && hub_answer(send_mode(MGMT_OP_REMOVE_ADVERTISING, 0, sizeof(struct mgmt_cp_remove_advertising), 0)) == HUB_DONE;
+    right = right && reply[MGMT_HDR_SIZE + sizeof(struct mgmt_ev_cmd_complete) + 1] == MGMT_EV_ADVERTISING_REMOVED;
     printf("beside mgmt.h: %s (%s, %s, %s)\n", right ? "right" : "wrong", mgmt_opstr(MGMT_OP_READ_VERSION), mgmt_evstr(MGMT_EV_CMD_COMPLETE),
            mgmt_errstr(MGMT_STATUS_UNKNOWN_COMMAND));
     return !right;

@@ -1,5 +1,6 @@
 /*
- * A busy hub for the programs beside: four controllers, tables with entries, commands under way. It is made through the hub's own entries.
+ * A busy hub for the programs beside: four controllers, tables with entries, advertising instances, commands under way. It is made through the hub's
+ * own entries.
  */
 #ifndef BUSY_H
 #define BUSY_H
@@ -10,6 +11,20 @@
 #include <string.h>
 
 #include "hub.h"
+
+/* Places in the state and in a block (docs/STATE-LAYOUT.md): of instance k duration and timeout at AT + 2 k, a length with its data at AT + 32 k. */
+enum {
+    FIRST_BLOCK = 4,
+    BLOCK = 4371,
+    AT_POWERED = 19,
+    AT_LOW_ENERGY = 23,
+    AT_DURATION = 4026,
+    AT_TIMEOUT = 4036,
+    AT_ON_AIR = 4048,
+    AT_LEFT = 4049,
+    AT_DATA = 4019,
+    AT_SCAN = 4179
+};
 
 /* A command packet; the longest list has 32 long term keys. */
 struct packet {
@@ -140,6 +155,37 @@ static void local_name(struct packet *packet, unsigned index, int letter)
     params[100] = 0;
 }
 
+/* Add Advertising: instance k with its seconds and so many octets of data and of scan response. */
+static void add_instance(struct packet *packet, unsigned index, unsigned k, unsigned duration, unsigned timeout, size_t data, size_t scan)
+{
+    uint8_t *params = make_packet(packet, 0x003E, index, 11 + data + scan);
+    params[0] = (uint8_t)k;
+    params[5] = (uint8_t)duration;
+    params[6] = (uint8_t)(duration >> 8);
+    params[7] = (uint8_t)timeout;
+    params[8] = (uint8_t)(timeout >> 8);
+    params[9] = (uint8_t)data;
+    params[10] = (uint8_t)scan;
+    memset(params + 11, (int)(0xA0 + k), data);
+    memset(params + 11 + data, (int)(0x50 + k), scan);
+}
+
+/* Instances of every kind: at 0 all five, at 1 one whose timeout is shorter than its turn, at 2, which has no power, and 3 some without a timeout. */
+static void fill_instances(uint8_t *state)
+{
+    static const struct {
+        unsigned index, k, duration, timeout, data, scan;
+    } all[] = {
+        { 0, 1, 0, 0, 31, 31 },   { 0, 2, 7, 20, 0, 0 }, { 0, 3, 65535, 65535, 5, 0 }, { 0, 4, 1, 0, 0, 31 }, { 0, 5, 300, 1, 31, 0 },
+        { 1, 2, 100, 40, 10, 3 }, { 1, 5, 2, 0, 1, 1 },  { 2, 1, 65535, 0, 31, 0 },    { 2, 4, 2, 0, 0, 30 }, { 3, 5, 0, 0, 31, 31 },
+    };
+    struct packet packet;
+    for (size_t i = 0; i < sizeof all / sizeof all[0]; i++) {
+        add_instance(&packet, all[i].index, all[i].k, all[i].duration, all[i].timeout, all[i].data, all[i].scan);
+        must_send(state, &packet, HUB_DONE);
+    }
+}
+
 /* Fills the tables of a controller with n entries each; the link keys are left out where BR/EDR is not supported. */
 static void fill_tables(uint8_t *state, unsigned index, unsigned n, int has_bredr)
 {
@@ -181,7 +227,7 @@ static void make_holes(uint8_t *state, unsigned index)
     }
 }
 
-/* Three dual-mode controllers and, at 3, one without BR/EDR and without a public address; the clock reads 1000. */
+/* Three dual-mode controllers and, at 3, one without BR/EDR and without a public address; the clock reads 990. */
 static void plug_all(uint8_t *state)
 {
     static const uint8_t empty[] = { 0, 0, 0, 6, 1, 0 };
@@ -189,15 +235,20 @@ static void plug_all(uint8_t *state)
     static const uint8_t address[6] = { 0x11, 0x22, 0x33, 0x44, 0x55, 0x66 };
     uint8_t reply[HUB_REPLY_MIN];
     must("load", hub_load(state, HUB_STATE_LEN, empty, sizeof empty), HUB_DONE);
-    must("clock", hub_clock(state, HUB_STATE_LEN, 1000, reply, sizeof reply), HUB_DONE);
+    must("clock", hub_clock(state, HUB_STATE_LEN, 990, reply, sizeof reply), HUB_DONE);
     for (uint64_t index = 0; index < 3; index++)
         must("plug", hub_plug(state, HUB_STATE_LEN, index, address, 6, 9, 0x010F, 0x02DB, reply, sizeof reply), HUB_DONE);
     must("plug at 3", hub_plug(state, HUB_STATE_LEN, 3, none, 6, 9, 15, 0x0201, reply, sizeof reply), HUB_DONE);
 }
 
-/* The busy hub: at 0 and 1 full tables, a discoverable timer or a command for one; at 2 holes and the power asked for; at 3 a static address. */
+/*
+ * The busy hub: at 0 and 1 full tables, a discoverable timer or a command for one; at 2 holes and the power asked for; at 3 a static address. The clock
+ * reads 1000, ten seconds after the instances came: on air are instance 3 at 0, instance 2 at 1 with 90 seconds left of its turn and 30 of its timeout,
+ * none at 2, instance 5 at 3.
+ */
 static inline void make_busy(uint8_t *state)
 {
+    uint8_t reply[HUB_REPLY_MIN];
     struct packet packet;
     plug_all(state);
     for (unsigned index = 0; index < 2; index++) {
@@ -206,6 +257,8 @@ static inline void make_busy(uint8_t *state)
         must_set(state, 0x0007, index, 1, 1, 0, HUB_DONE, 0);
         must_set(state, 0x0005, index, 1, 1, 0, HUB_STARTED, 1);
     }
+    fill_instances(state);
+    must("clock", hub_clock(state, HUB_STATE_LEN, 1000, reply, sizeof reply), HUB_DONE);
     must_set(state, 0x0006, 0, 3, 1, 300, HUB_STARTED, 1);
     must_set(state, 0x000D, 0, 1, 0, 0, HUB_STARTED, 0);
     must_set(state, 0x0006, 1, 3, 2, 0x1234, HUB_STARTED, 0);

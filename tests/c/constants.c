@@ -9,7 +9,8 @@
 static uint8_t state[HUB_STATE_LEN + 1];
 static uint8_t reply[HUB_IMAGE_MAX];
 static const uint8_t empty[] = { 0, 0, 0, 6, 1, 0 };
-static const uint8_t version[] = { 1, 0, 0xFF, 0xFF, 0, 0 };
+static const uint8_t version[] = { 1, 0, 0xFF, 0xFF, 0, 0 }, commands[] = { 2, 0, 0xFF, 0xFF, 0, 0 };
+static const uint8_t address[6] = { 1, 2, 3, 4, 5, 6 };
 static int failures;
 
 static void expect(const char *what, unsigned got, unsigned wanted)
@@ -35,11 +36,21 @@ int main(void)
     expect("read version", hub_answer(result), HUB_DONE);
     expect("its count", (unsigned)hub_count(result), 12);
     expect("its second number", hub_extra(result), 0);
+    result = hub_command(state, HUB_STATE_LEN, commands, 6, reply, HUB_REPLY_MIN);
+    expect("read commands", (unsigned)hub_count(result), 6 + 3 + 4 + 2 * 21 + 2 * 12);
+    expect("its commands", reply[9], 21);
+    expect("its events", reply[11], 12);
     expect("five octets", hub_answer(hub_command(state, HUB_STATE_LEN, version, 5, reply, HUB_REPLY_MIN)), HUB_BAD_PACKET);
     expect("image one octet short", hub_answer(hub_save(state, HUB_STATE_LEN, reply, HUB_IMAGE_MAX - 1)), HUB_SMALL_BUFFER);
     expect("save", hub_answer(hub_save(state, HUB_STATE_LEN, reply, HUB_IMAGE_MAX)), HUB_DONE);
     expect("unplug of an absent index", hub_answer(hub_unplug(state, HUB_STATE_LEN, 0, reply, HUB_REPLY_MIN)), HUB_BAD_ARGUMENT);
     expect("an index of 64 bits", hub_answer(hub_report(state, HUB_STATE_LEN, ~(uint64_t)0, 0, reply, HUB_REPLY_MIN)), HUB_BAD_ARGUMENT);
+    expect("on air at an absent index", hub_answer(hub_on_air(state, HUB_STATE_LEN, 3, reply, HUB_REPLY_MIN)), HUB_BAD_ARGUMENT);
+    expect("plug", hub_answer(hub_plug(state, HUB_STATE_LEN, 3, address, 6, 9, 15, 0x0281, reply, HUB_REPLY_MIN)), HUB_DONE);
+    result = hub_on_air(state, HUB_STATE_LEN, 3, reply, HUB_REPLY_MIN);
+    expect("on air", hub_answer(result), HUB_DONE);
+    expect("its count", (unsigned)hub_count(result), 0);
+    expect("on air, reply one octet short", hub_answer(hub_on_air(state, HUB_STATE_LEN, 3, reply, HUB_REPLY_MIN - 1)), HUB_SMALL_BUFFER);
     state[5] = 1;
     expect("a state with an octet that means nothing", hub_answer(hub_clock(state, HUB_STATE_LEN, 0, reply, HUB_REPLY_MIN)), HUB_BAD_STATE);
     printf("constants: %s\n", failures ? "wrong" : "right");

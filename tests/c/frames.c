@@ -49,6 +49,25 @@ static void reply_of(const char *what, const uint8_t *octets, size_t count, unsi
         expect(what, walk(octets, shorter, &stopped) < wanted && stopped <= shorter);
 }
 
+/* Replies with Advertising Added and Advertising Removed: of 0, which has all five instances, three have a timeout. */
+static void advertising(uint8_t *state, uint8_t *reply)
+{
+    struct packet packet;
+    uint64_t result;
+    result = hub_clock(state, HUB_STATE_LEN, 1301 + 0x7FFFFFFFu, reply, HUB_REPLY_MIN);
+    reply_of("the longest clock step", reply, hub_count(result), 3);
+    add_instance(&packet, 0, 2, 3, 9, 31, 31);
+    result = hub_command(state, HUB_STATE_LEN, packet.octets, packet.length, reply, HUB_REPLY_MIN);
+    reply_of("Add Advertising", reply, hub_count(result), 2);
+    result = hub_command(state, HUB_STATE_LEN, packet.octets, packet.length, reply, HUB_REPLY_MIN);
+    reply_of("Add Advertising of one that is there", reply, hub_count(result), 1);
+    result = hub_report(state, HUB_STATE_LEN, 0, 0, reply, HUB_REPLY_MIN);
+    reply_of("Low Energy is off: reply, New Settings, three instances", reply, hub_count(result), 5);
+    make_packet(&packet, 0x003F, 2, 1);
+    result = hub_command(state, HUB_STATE_LEN, packet.octets, packet.length, reply, HUB_REPLY_MIN);
+    reply_of("Remove Advertising of both", reply, hub_count(result), 3);
+}
+
 /* The busy hub's replies of one packet and of more. */
 static void replies(void)
 {
@@ -68,11 +87,12 @@ static void replies(void)
     result = hub_report(state, sizeof state, 2, 0, reply, sizeof reply);
     reply_of("a report", reply, hub_count(result), 2);
     result = hub_clock(state, sizeof state, 1300, reply, sizeof reply);
-    reply_of("a timer that ends", reply, hub_count(result), 1);
+    reply_of("a timer that ends at 0, and an instance's timeout at 1", reply, hub_count(result), 2);
     result = hub_unplug(state, sizeof state, 1, reply, sizeof reply);
     reply_of("unplug of a controller whose radio works", reply, hub_count(result), 2);
     result = hub_clock(state, sizeof state, 1301, reply, sizeof reply);
     reply_of("a clock that ends nothing", reply, hub_count(result), 0);
+    advertising(state, reply);
 }
 
 /* Octets that are no packets: the walk ends where they begin. */

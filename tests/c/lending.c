@@ -51,7 +51,7 @@ static uint8_t *place(int buffer, size_t length, int at_end)
     return at_end ? pages[buffer] + ROOM - PAGE - length : pages[buffer] + PAGE;
 }
 
-/* One of eight calls. The octets are those of a packet, an address or an image. */
+/* One of nine calls. The octets are those of a packet, an address or an image. */
 static uint64_t call(int which, uint8_t *state, size_t state_len, const uint8_t *octets, size_t octets_len, uint8_t *reply, size_t reply_len)
 {
     switch (which) {
@@ -62,6 +62,7 @@ static uint64_t call(int which, uint8_t *state, size_t state_len, const uint8_t 
     case 4: return hub_plug(state, state_len, 1, octets, octets_len, 9, 15, 0x0281, reply, reply_len);
     case 5: return hub_save(state, state_len, reply, reply_len);
     case 7: return hub_name(state, state_len, 2, 0, reply, reply_len);
+    case 8: return hub_on_air(state, state_len, 3, reply, reply_len);
     default: return hub_load(state, state_len, octets, octets_len);
     }
 }
@@ -69,7 +70,7 @@ static uint64_t call(int which, uint8_t *state, size_t state_len, const uint8_t 
 /* What a call answers where some of its buffers have no octets: first of all the state, then the reply, then the rest. */
 static unsigned wanted(int which, int no_state, int no_octets, int no_reply)
 {
-    static const unsigned refusals[] = { HUB_BAD_PACKET, HUB_DONE, HUB_DONE, HUB_DONE, HUB_BAD_ARGUMENT, HUB_DONE, HUB_BAD_IMAGE, HUB_DONE };
+    static const unsigned refusals[] = { HUB_BAD_PACKET, HUB_DONE, HUB_DONE, HUB_DONE, HUB_BAD_ARGUMENT, HUB_DONE, HUB_BAD_IMAGE, HUB_DONE, HUB_DONE };
     if (no_state)
         return HUB_BAD_STATE;
     if (no_reply && which != 6)
@@ -83,7 +84,7 @@ static void no_octets(int null)
     static const uint8_t version[] = { 1, 0, 0xFF, 0xFF, 0, 0 }, address[] = { 1, 2, 3, 4, 5, 6 };
     static uint8_t state[HUB_STATE_LEN], reply[HUB_IMAGE_MAX];
     uint8_t *none = null ? NULL : place(0, 0, 1);
-    for (int which = 0; which < 8; which++)
+    for (int which = 0; which < 9; which++)
         for (int mask = 0; mask < 8; mask++) {
             const uint8_t *octets = which == 0 ? version : which == 4 ? address : image;
             size_t length = which == 6 ? image_length : 6;
@@ -97,7 +98,7 @@ static void no_octets(int null)
         }
 }
 
-/* Packets of many kinds: lists, names, settings, and one that removes every device. */
+/* Packets of many kinds: lists, names, settings, instances, and two that remove every device and every instance. */
 static void packet_of(struct packet *packet, unsigned k)
 {
     switch (k) {
@@ -111,11 +112,14 @@ static void packet_of(struct packet *packet, unsigned k)
     case 7: name_device(packet, 0x001B, 3, 1, 8, 1); break;
     case 8: make_packet(packet, 0x0009, 3, 1); break;
     case 9: make_packet(packet, 0x0005, 3, 1); break;
+    case 10: add_instance(packet, 3, 5, 7, 9, 31, 31); break;
+    case 11: add_instance(packet, 2, 2, 0, 0, 0, 0); break;
+    case 12: make_packet(packet, 0x003F, 0, 1); break;
     default: make_packet(packet, 0x0002, 0xFFFF, 0); break;
     }
 }
 
-enum { PACKETS = 11, CALLS = PACKETS + 6 };
+enum { PACKETS = 14, CALLS = PACKETS + 8 };
 
 /* Call k of a shift; what is lent ends at the places that are given for it. */
 static uint64_t one(unsigned k, uint8_t *state, uint8_t *octets, uint8_t *reply)
@@ -132,6 +136,8 @@ static uint64_t one(unsigned k, uint8_t *state, uint8_t *octets, uint8_t *reply)
     }
     if (k == CALLS - 2)
         return call(5, state, HUB_STATE_LEN, NULL, 0, reply - HUB_IMAGE_MAX, HUB_IMAGE_MAX);
+    if (k >= CALLS - 4)
+        return call(k == CALLS - 3 ? 7 : 8, state, HUB_STATE_LEN, NULL, 0, reply - HUB_REPLY_MIN, HUB_REPLY_MIN);
     memcpy(octets - 6, "\1\2\3\4\5\6", 6);
     return call((int)(k - PACKETS) + 1, state, HUB_STATE_LEN, octets - 6, 6, reply - HUB_REPLY_MIN, HUB_REPLY_MIN);
 }
@@ -179,6 +185,8 @@ static void at_start(void)
     }
     memcpy(octets, image, image_length);
     expect("load at the start", 0, hub_answer(call(6, state, HUB_STATE_LEN, octets, image_length, NULL, 0)) == HUB_DONE);
+    memcpy(state, base, HUB_STATE_LEN);
+    expect("on air at the start", 0, hub_answer(call(8, state, HUB_STATE_LEN, NULL, 0, reply, HUB_REPLY_MIN)) == HUB_DONE);
     expect("save at the start", 0, hub_answer(call(5, state, HUB_STATE_LEN, NULL, 0, reply, HUB_IMAGE_MAX)) == HUB_DONE);
 }
 

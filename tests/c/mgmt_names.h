@@ -49,6 +49,8 @@
 #define MGMT_OP_LOAD_IRKS 0x0030
 #define MGMT_OP_ADD_DEVICE 0x0033
 #define MGMT_OP_REMOVE_DEVICE 0x0034
+#define MGMT_OP_ADD_ADVERTISING 0x003E
+#define MGMT_OP_REMOVE_ADVERTISING 0x003F
 
 #define MGMT_EV_CMD_COMPLETE 0x0001
 #define MGMT_EV_CMD_STATUS 0x0002
@@ -62,6 +64,8 @@
 #define MGMT_EV_DEVICE_UNPAIRED 0x0016
 #define MGMT_EV_DEVICE_ADDED 0x001a
 #define MGMT_EV_DEVICE_REMOVED 0x001b
+#define MGMT_EV_ADVERTISING_ADDED 0x0023
+#define MGMT_EV_ADVERTISING_REMOVED 0x0024
 
 #pragma pack(push, 1)
 
@@ -129,6 +133,21 @@ struct mgmt_irk_info {
 struct mgmt_cp_add_device {
     struct mgmt_addr_info addr;
     uint8_t action;
+};
+
+struct mgmt_cp_add_advertising {
+    uint8_t instance;
+    uint32_t flags;
+    uint16_t duration, timeout;
+    uint8_t adv_data_len, scan_rsp_len, data[];
+};
+
+struct mgmt_cp_remove_advertising {
+    uint8_t instance;
+};
+
+struct mgmt_ev_advertising_added {
+    uint8_t instance;
 };
 
 struct mgmt_ev_cmd_complete {

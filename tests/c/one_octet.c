@@ -1,15 +1,16 @@
 /*
  * Every change of one octet of a busy state, to eight values with one bit flipped, 0 and 0xFF: the changed state is lent to command, report, clock,
- * unplug and save, and each either answers 5 and writes nothing, or gives another answer of its own inside its buffers. All five are of one mind.
+ * unplug, save and on air. Each either answers 5 and writes nothing, or gives another answer of its own inside its buffers. All six answer
+ * 5, or none does.
  *
  *     one_octet [STRIDE [FIRST]]      only every STRIDE-th octet, from FIRST on; every one if nothing is said
  */
 #include "busy.h"
 
-enum { COMMAND, REPORT, CLOCK, UNPLUG, SAVE, CALLS };
-enum { COMMANDS = 19, FILLER = 0xA5, FIRST_BLOCK = 4, BLOCK = 4028 };
+enum { COMMAND, REPORT, CLOCK, UNPLUG, SAVE, ON_AIR, CALLS };
+enum { COMMANDS = 23, FILLER = 0xA5 };
 
-static const char *const call_names[CALLS] = { "command", "report", "clock", "unplug", "save" };
+static const char *const call_names[CALLS] = { "command", "report", "clock", "unplug", "save", "on air" };
 static uint8_t *base, *changed;       /* the busy state, and that with one octet changed */
 static uint8_t *state, *reply, *room; /* what is lent, each as long as it must be and no longer: state, reply, save's reply */
 static uint8_t *filler;               /* what a reply buffer holds before a call */
@@ -39,6 +40,10 @@ static void make_packets(unsigned index)
     name_device(p++, 0x0027, index, 4, 7, 0);
     name_device(p++, 0x0033, index, 4, 8, 1);
     make_packet(p++, 0x0034, index, 7);
+    add_instance(p++, index, 2, 3, 0, 31, 31);
+    add_instance(p++, index, 5, 0, 60, 7, 0);
+    *make_packet(p++, 0x003F, index, 1) = 3;
+    make_packet(p++, 0x003F, index, 1);
 }
 
 /* One call on the lent state, at the controller that the changed octet belongs to; the command and the status change from one to the next. */
@@ -55,6 +60,8 @@ static uint64_t run(int call, size_t at)
         return hub_clock(state, HUB_STATE_LEN, changes % 2 ? 1010 : 2000, reply, HUB_REPLY_MIN);
     case UNPLUG:
         return hub_unplug(state, HUB_STATE_LEN, index, reply, HUB_REPLY_MIN);
+    case ON_AIR:
+        return hub_on_air(state, HUB_STATE_LEN, index, reply, HUB_REPLY_MIN);
     default:
         return hub_save(state, HUB_STATE_LEN, room, HUB_IMAGE_MAX);
     }
@@ -71,7 +78,7 @@ static int may_answer(int call, unsigned answer)
     case HUB_REFUSED:
         return call == COMMAND;
     case HUB_BAD_ARGUMENT:
-        return call == REPORT || call == CLOCK || call == UNPLUG;
+        return call == REPORT || call == CLOCK || call == UNPLUG || call == ON_AIR;
     default:
         return 0;
     }
@@ -89,7 +96,7 @@ static const char *fault(int call, uint64_t result)
         return "a count that cannot be";
     if (memcmp((call == SAVE ? room : reply) + count, filler, lent - count) != 0)
         return "octets written past the count";
-    if (!same && (call == SAVE || answer > HUB_STARTED))
+    if (!same && (call == SAVE || call == ON_AIR || answer > HUB_STARTED))
         return "a state changed by a call that is refused";
     if (!same && hub_answer(hub_save(state, HUB_STATE_LEN, room, HUB_IMAGE_MAX)) != HUB_DONE)
         return "a state left that the next call does not take";
@@ -98,7 +105,7 @@ static const char *fault(int call, uint64_t result)
     return NULL;
 }
 
-/* Lends the changed state to the five calls. */
+/* Lends the changed state to the six calls. */
 static void try_change(size_t at)
 {
     unsigned refusing = 0;

@@ -57,6 +57,23 @@ static unsigned command_takes(const struct packet *packet, unsigned wanted)
     return takes((entry)hub_command, args, wanted);
 }
 
+/* Add Advertising of one on air, of one that is new and of one that is refused, and Remove Advertising of all and of one. */
+static unsigned advertising(void)
+{
+    struct packet packet;
+    unsigned worst;
+    add_instance(&packet, 0, 3, 9, 9, 31, 31);
+    worst = command_takes(&packet, HUB_DONE);
+    add_instance(&packet, 2, 3, 9, 0, 31, 31);
+    worst = most(worst, command_takes(&packet, HUB_DONE));
+    add_instance(&packet, 2, 3, 9, 9, 31, 31);
+    worst = most(worst, command_takes(&packet, HUB_REFUSED));
+    make_packet(&packet, 0x003F, 0, 1);
+    worst = most(worst, command_takes(&packet, HUB_DONE));
+    *make_packet(&packet, 0x003F, 1, 1) = 2;
+    return most(worst, command_takes(&packet, HUB_DONE));
+}
+
 /* The commands that go deepest: lists, removals, names, settings at once and started. */
 static unsigned commands(void)
 {
@@ -78,6 +95,7 @@ static unsigned commands(void)
     worst = most(worst, command_takes(&packet, HUB_DONE));
     make_packet(&packet, 0x0005, 3, 1);
     worst = most(worst, command_takes(&packet, HUB_STARTED));
+    worst = most(worst, advertising());
     make_packet(&packet, 0x0009, 0, 1);
     worst = most(worst, command_takes(&packet, HUB_DONE));
     *make_packet(&packet, 0x0007, 2, 1) = 1;
@@ -92,19 +110,22 @@ static void others(void)
     static const uint8_t address[6] = { 1, 2, 3, 4, 5, 6 };
     uint64_t report[10] = { ARG(state), HUB_STATE_LEN, 0, 0, ARG(reply), HUB_REPLY_MIN }, worst = 0;
     uint64_t clock[10] = { ARG(state), HUB_STATE_LEN, 1300, ARG(reply), HUB_REPLY_MIN };
+    uint64_t longest[10] = { ARG(state), HUB_STATE_LEN, 1000 + 0x7FFFFFFFu, ARG(reply), HUB_REPLY_MIN };
     uint64_t unplug[10] = { ARG(state), HUB_STATE_LEN, 0, ARG(reply), HUB_REPLY_MIN };
     uint64_t plug[10] = { ARG(state), HUB_STATE_LEN, 1, ARG(address), 6, 9, 15, 0x0281, ARG(reply), HUB_REPLY_MIN };
     uint64_t save[10] = { ARG(state), HUB_STATE_LEN, ARG(reply), HUB_IMAGE_MAX };
     uint64_t name[10] = { ARG(state), HUB_STATE_LEN, 0, 0, ARG(reply), HUB_REPLY_MIN };
+    uint64_t on_air[10] = { ARG(state), HUB_STATE_LEN, 3, ARG(reply), HUB_REPLY_MIN };
     uint64_t load[10] = { ARG(state), HUB_STATE_LEN, ARG(image), 0 };
     for (report[2] = 0; report[2] < 3; report[2]++)
         worst = most((unsigned)worst, takes((entry)hub_report, report, HUB_DONE));
     printf("hub_report %u\n", (unsigned)worst);
-    printf("hub_clock %u\n", takes((entry)hub_clock, clock, HUB_DONE));
+    printf("hub_clock %u\n", most(takes((entry)hub_clock, clock, HUB_DONE), takes((entry)hub_clock, longest, HUB_DONE)));
     printf("hub_unplug %u\n", takes((entry)hub_unplug, unplug, HUB_DONE));
     load[3] = hub_count(hub_save(base, sizeof base, image, sizeof image));
     printf("hub_save %u\n", takes((entry)hub_save, save, HUB_DONE));
     printf("hub_name %u\n", takes((entry)hub_name, name, HUB_DONE));
+    printf("hub_on_air %u\n", takes((entry)hub_on_air, on_air, HUB_DONE));
     printf("hub_load %u\n", takes((entry)hub_load, load, HUB_DONE));
     must("unplug", hub_unplug(base, sizeof base, 1, reply, sizeof reply), HUB_DONE);
     printf("hub_plug %u\n", takes((entry)hub_plug, plug, HUB_DONE));

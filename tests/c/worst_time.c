@@ -1,7 +1,7 @@
 /*
- * The longest time that a call takes: on a hub with four controllers and all 768 records, the records of a table alike but for one octet, which is each
- * octet in turn. A call's time is the least of many tries, spread over the whole run so that a slow moment of the machine is not the call's; an entry's
- * is the most over its calls and over the hubs.
+ * The longest time that a call takes: on a hub with four controllers, all 768 records and all 20 advertising instances, the records of a table alike
+ * but for one octet, which is each octet in turn. Clock steps up to the longest are among the calls. A call's time is the least of many tries, spread
+ * over the whole run so that a slow moment of the machine is not the call's; an entry's is the most over its calls and over the hubs.
  *
  *     worst_time [LIMIT]      prints a line 'NAME MICROSECONDS' for each entry; the exit code is 1 if one took more than LIMIT microseconds
  */
@@ -10,9 +10,9 @@
 
 #include "busy.h"
 
-enum { ROUNDS = 8, TRIES = 25, OCTETS = 16, ENTRIES = 8, INPUTS = 25 };
+enum { ROUNDS = 8, TRIES = 25, OCTETS = 16, ENTRIES = 9, INPUTS = 33 };
 
-/* A call: an entry by its number, a packet for a command, else an index. */
+/* A call: an entry by its number, a packet for a command, a reading for the clock, else an index. */
 struct input {
     int entry;
     unsigned index;
@@ -20,7 +20,7 @@ struct input {
 };
 
 static const char *const names[ENTRIES] = { "hub_command", "hub_report", "hub_clock", "hub_plug", "hub_unplug", "hub_save", "hub_load",
-                                            "hub_name" };
+                                            "hub_name", "hub_on_air" };
 static const uint8_t address[6] = { 1, 2, 3, 4, 5, 6 };
 static uint8_t full[HUB_STATE_LEN], state[HUB_STATE_LEN], image[HUB_IMAGE_MAX], reply[HUB_IMAGE_MAX];
 static struct input inputs[INPUTS];
@@ -61,7 +61,18 @@ static uint8_t *put_controller(uint8_t *to, unsigned octet)
     return to;
 }
 
-/* The longest image, and the hub made of it with power, discoverable timers, and a command under way at each index. */
+/* Five advertising instances with full data at an index: their turns, and the timeouts, end at different times. */
+static void fill_turns(unsigned index)
+{
+    static const unsigned durations[5] = { 3, 5, 7, 11, 13 }, timeouts[5] = { 65535, 50000, 40001, 29999, 20000 };
+    struct packet packet;
+    for (unsigned k = 0; k < 5; k++) {
+        add_instance(&packet, index, k + 1, durations[k], timeouts[k], 31, 31);
+        must_send(full, &packet, HUB_DONE);
+    }
+}
+
+/* The longest image, and the hub made of it with power, instances, discoverable timers, and a command under way at each index. */
 static void make_full(unsigned octet)
 {
     uint8_t *to = image + 6;
@@ -75,6 +86,7 @@ static void make_full(unsigned octet)
     must("the longest image", hub_load(full, sizeof full, image, sizeof image), HUB_DONE);
     for (unsigned index = 0; index < 4; index++) {
         must_set(full, 0x0005, index, 1, 1, 0, HUB_STARTED, 1);
+        fill_turns(index);
         must_set(full, 0x0006, index, 3, 1, 300, HUB_STARTED, 1);
         must_set(full, 0x0007, index, 1, 0, 0, HUB_STARTED, 0);
     }
@@ -110,6 +122,7 @@ static void named(unsigned code, size_t length, int table, unsigned k, unsigned 
 /* The calls that have most to do. */
 static void make_inputs(unsigned octet)
 {
+    static const unsigned steps[5] = { 1, 300, 99999, 180000, 0x7FFFFFFF };
     made = 0;
     list(0x0012, 3, 25, 1, octet);
     list(0x0013, 2, 36, 2, octet);
@@ -129,8 +142,13 @@ static void make_inputs(unsigned octet)
     make_packet(&input(0, 3)->packet, 0x0004, 3, 0);
     make_packet(&input(0, 3)->packet, 0x0009, 3, 1);
     make_packet(&input(0, 3)->packet, 0x0002, 0xFFFF, 0);
+    add_instance(&input(0, 3)->packet, 3, 1, 9, 9, 31, 31);
+    add_instance(&input(0, 3)->packet, 3, 5, 9, 9, 31, 31);
+    make_packet(&input(0, 3)->packet, 0x003F, 3, 1);
     input(1, 3);
-    for (int entry = 2; entry < ENTRIES; entry++)
+    for (unsigned k = 0; k < 5; k++)
+        input(2, steps[k]);
+    for (int entry = 3; entry < ENTRIES; entry++)
         input(entry, 3);
 }
 
@@ -139,12 +157,13 @@ static uint64_t call(const struct input *in)
     switch (in->entry) {
     case 0: return hub_command(state, sizeof state, in->packet.octets, in->packet.length, reply, HUB_REPLY_MIN);
     case 1: return hub_report(state, sizeof state, in->index, 0, reply, HUB_REPLY_MIN);
-    case 2: return hub_clock(state, sizeof state, 300, reply, HUB_REPLY_MIN);
+    case 2: return hub_clock(state, sizeof state, in->index, reply, HUB_REPLY_MIN);
     case 3: return hub_plug(state, sizeof state, in->index, address, 6, 9, 15, 0x0281, reply, HUB_REPLY_MIN);
     case 4: return hub_unplug(state, sizeof state, in->index, reply, HUB_REPLY_MIN);
     case 5: return hub_save(state, sizeof state, reply, HUB_IMAGE_MAX);
     case 6: return hub_load(state, sizeof state, image, sizeof image);
-    default: return hub_name(state, sizeof state, in->index, 0, reply, HUB_REPLY_MIN);
+    case 7: return hub_name(state, sizeof state, in->index, 0, reply, HUB_REPLY_MIN);
+    default: return hub_on_air(state, sizeof state, in->index, reply, HUB_REPLY_MIN);
     }
 }
 

@@ -1,5 +1,5 @@
 #!/usr/bin/env bash
-# a busy state with each octet changed in turn, and bad input of every length, from C; a part of both under valgrind
+# a busy state with each octet changed in turn, bad input of every length, and bad input of advertising, from C; a part of it under valgrind
 set -euo pipefail
 cd "$(dirname "$0")/../.."
 . tests/steps/tools.sh
@@ -8,10 +8,11 @@ need gcc valgrind
 library
 out=target/tests/c
 mkdir -p "$out"
-for program in one_octet bad_input; do
+for program in one_octet bad_input bad_advertising; do
     gcc -std=c11 -g -O1 -Wall -Wextra -Werror -Iinclude "tests/c/$program.c" target/staticlib/libhub.a -o "$out/$program"
     "$out/$program"
 done
 # Only some octets and lengths here; the whole takes minutes (tests/README.md).
 valgrind --quiet --error-exitcode=9 "$out/one_octet" "${HUB_STRIDE:-31}"
 valgrind --quiet --error-exitcode=9 "$out/bad_input" "${HUB_STRIDE:-101}"
+valgrind --quiet --error-exitcode=9 "$out/bad_advertising"

@@ -46,6 +46,10 @@ converts "1.0 A open\n1.0 A wrote 1a0000000000\n1.0 A close\n1.0 - wrote 0400000
     "${opened}ffff close 1\n${opened/open 1/open 2}" "btsnoop: 0 packets left out, 2 replies and events without a client\n"
 converts "1.0 A open\n1.0 A sent 05000300010001\n1.0 A close\n1.0 - wrote 020003000300050003\n" \
     "${opened}0003 command 1 0x0005 1 01\nffff close 1\n" "btsnoop: 0 packets left out, 1 replies and events without a client\n"
+converts "1.0 A open\n1.0 A sent 3f000000010005\n1.0 A wrote 0100000004003f00000524000000010005\n" \
+    "${opened}0000 command 1 0x003f 1 05\n0000 event 1 0x0001 4 3f 00 00 05\n" "btsnoop: 0 packets left out, 1 replies and events without a client\n"
+converts "1.0 A open\n1.0 A sent 0d000000010000\n1.0 A wrote 0100000007000d0000800000000600000004008000000024000000010005\n" \
+    "${opened}0000 command 1 0x000d 1 00\n0000 event 1 0x0001 7 0d 00 00 80 00 00 00\n0000 event 1 0x0006 4 80 00 00 00\n0000 event 1 0x0024 1 05\n" ""
 refuses "1.0 A sent 0100ffff0000\n" "line 1: this client is not open"
 refuses "1.0 A open\n1.0 A open\n" "line 2: this client is open already"
 refuses "1.0 - wrote 020003000300050003\n" "line 1: no client waits for this reply"
@@ -85,6 +89,11 @@ while read -r line; do says "$line"; done << 'WORDS'
 @ MGMT Event: New Settings (0x0006) plen 4 {0x0002} [hci0]
 @ MGMT Command: Load Long Term Keys (0x0013) plen 74 {0x0001} [hci0]
 @ MGMT Event: Device Added (0x001a) plen 8 {0x0002} [hci0]
+@ MGMT Command: Add Advertising (0x003e) plen 24 {0x0001} [hci0]
+@ MGMT Event: Advertising Added (0x0023) plen 1 {0x0002} [hci0]
+@ MGMT Event: Advertising Removed (0x0024) plen 1 {0x0001} [hci0]
+@ MGMT Event: Advertising Removed (0x0024) plen 1 {0x0002} [hci0]
+@ MGMT Command: Remove Advertising (0x003f) plen 1 {0x0001} [hci0]
 @ MGMT Event: Index Removed (0x0005) plen 0 {0x0001} [hci1]
 @ MGMT Command: Read Controller Index List (0x0003) plen 0 {0x0002}
 @ MGMT Close: B {0x0002}

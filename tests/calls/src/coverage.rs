@@ -28,6 +28,15 @@ fn reasons(code: u16) -> &'static [Reason] {
         code::UNBLOCK => &[AddressType, ZeroAddress, Absent],
         code::ADD_DEVICE => &[AddressType, ZeroAddress, Action, ActionForType, NoFreeSlot],
         code::REMOVE_DEVICE => &[AddressType, ZeroAddress, Absent],
+        code::ADD_ADVERTISING => &[
+            Instance,
+            AdvertisingFlags,
+            AdvertisingLength,
+            ScanResponseLength,
+            LowEnergyOff,
+            TimeoutUnpowered,
+        ],
+        code::REMOVE_ADVERTISING => &[Absent],
         _ => &[],
     }
 }
@@ -68,7 +77,8 @@ pub fn expected_refusals() -> Vec<(String, String)> {
 /// Pairs of reasons that stand against one command together, so that their order
 /// shows: the first answers.
 pub fn expected_orders() -> Vec<(String, String, String)> {
-    let pairs: [(u16, &[Reason], &[Reason]); 12] = [
+    let values = [Instance, AdvertisingFlags, AdvertisingLength, ScanResponseLength];
+    let pairs: [(u16, &[Reason], &[Reason]); 13] = [
         (code::SET_POWERED, &[SettingValue], &[Busy]),
         (code::SET_DISCOVERABLE, &[SettingValue, TimeoutGiven, TimeoutMissing], &[NotSupported, Busy]),
         (code::SET_DISCOVERABLE, &[TimeoutMissing, NotSupported, NotPowered, Busy], &[NotConnectable]),
@@ -81,6 +91,7 @@ pub fn expected_orders() -> Vec<(String, String, String)> {
         (code::LOAD_LINK_KEYS, &[TooManyRecords, DebugFlag, KeyType, Repeated], &[NotSupported]),
         (code::LOAD_LINK_KEYS, &[TooManyRecords], &[DebugFlag, AddressType, KeyType, Repeated]),
         (code::UNPAIR, &[AddressType, Disconnect, NotPowered], &[NotPaired]),
+        (code::ADD_ADVERTISING, &values, &[LowEnergyOff, TimeoutUnpowered]),
     ];
     let mut out = Vec::new();
     for (code, firsts, seconds) in pairs {

@@ -1,5 +1,6 @@
 //! Random lists of calls that follow a hub, so that most calls mean something.
 
+use crate::instances;
 use crate::parameters;
 use crate::pools;
 use crate::random::Random;
@@ -23,16 +24,26 @@ enum Mood {
     Draining,
     /// Key lists are loaded and devices unpaired.
     Keys,
+    /// Advertising instances come, change and go, and the clock.
+    Advertising,
     /// Everything alike.
     Mixed,
 }
 
 /// All moods.
-const MOODS: [Mood; 7] =
-    [Mood::Settings, Mood::Waiting, Mood::Timers, Mood::Filling, Mood::Draining, Mood::Keys, Mood::Mixed];
+const MOODS: [Mood; 8] = [
+    Mood::Settings,
+    Mood::Waiting,
+    Mood::Timers,
+    Mood::Filling,
+    Mood::Draining,
+    Mood::Keys,
+    Mood::Advertising,
+    Mood::Mixed,
+];
 
 /// The commands to a controller, in the order of the weights below.
-const CODES: [u16; 18] = [
+const CODES: [u16; 20] = [
     code::READ_INFORMATION,
     code::SET_POWERED,
     code::SET_DISCOVERABLE,
@@ -51,19 +62,22 @@ const CODES: [u16; 18] = [
     code::UNBLOCK,
     code::ADD_DEVICE,
     code::REMOVE_DEVICE,
+    code::ADD_ADVERTISING,
+    code::REMOVE_ADVERTISING,
 ];
 
 impl Mood {
     /// How often each command comes.
-    fn weights(self) -> [usize; 18] {
+    fn weights(self) -> [usize; 20] {
         match self {
-            Mood::Settings => [3, 12, 16, 7, 3, 6, 5, 2, 1, 1, 1, 1, 1, 2, 1, 1, 1, 1],
-            Mood::Waiting => [3, 8, 8, 8, 4, 8, 8, 3, 3, 3, 2, 2, 2, 3, 3, 3, 3, 3],
-            Mood::Timers => [1, 12, 40, 8, 1, 1, 1, 1, 1, 1, 1, 1, 1, 1, 1, 1, 1, 1],
-            Mood::Filling => [1, 2, 2, 1, 1, 1, 1, 1, 16, 1, 1, 1, 1, 1, 16, 1, 16, 1],
-            Mood::Draining => [1, 2, 1, 1, 1, 1, 1, 1, 5, 12, 1, 1, 1, 6, 5, 12, 5, 12],
-            Mood::Keys => [1, 6, 1, 1, 1, 1, 1, 1, 1, 1, 8, 8, 8, 16, 1, 1, 1, 1],
-            Mood::Mixed => [1; 18],
+            Mood::Settings => [3, 12, 16, 7, 3, 6, 5, 2, 1, 1, 1, 1, 1, 2, 1, 1, 1, 1, 5, 1],
+            Mood::Waiting => [3, 8, 8, 8, 4, 8, 8, 3, 3, 3, 2, 2, 2, 3, 3, 3, 3, 3, 6, 2],
+            Mood::Timers => [1, 12, 40, 8, 1, 1, 1, 1, 1, 1, 1, 1, 1, 1, 1, 1, 1, 1, 6, 1],
+            Mood::Filling => [1, 2, 2, 1, 1, 1, 1, 1, 16, 1, 1, 1, 1, 1, 16, 1, 16, 1, 1, 1],
+            Mood::Draining => [1, 2, 1, 1, 1, 1, 1, 1, 5, 12, 1, 1, 1, 6, 5, 12, 5, 12, 1, 1],
+            Mood::Keys => [1, 6, 1, 1, 1, 1, 1, 1, 1, 1, 8, 8, 8, 16, 1, 1, 1, 1, 1, 1],
+            Mood::Advertising => [1, 6, 2, 2, 1, 3, 1, 1, 1, 1, 1, 1, 1, 1, 1, 1, 1, 1, 50, 18],
+            Mood::Mixed => [1; 20],
         }
     }
 }
@@ -83,7 +97,7 @@ enum Next {
     Save,
     /// A packet that is none.
     Broken,
-    /// A command that is none of the 21.
+    /// A command that is none of the 23.
     Unknown,
     /// A command about no controller.
     Global,
@@ -143,7 +157,7 @@ impl Generator {
         let waiting = self.mood == Mood::Waiting;
         let weights = [
             (Next::Report, 12 + open * if waiting { 15 } else { 150 }),
-            (Next::Clock, if self.mood == Mood::Timers { 160 } else { 40 }),
+            (Next::Clock, if matches!(self.mood, Mood::Timers | Mood::Advertising) { 160 } else { 40 }),
             (Next::Plug, 10 + 400 / (1 + 10 * present * present)),
             (Next::Unplug, 5 + open),
             (Next::Save, 8),
@@ -178,7 +192,10 @@ impl Generator {
 
     /// A present index, mostly the one in focus.
     fn present_index(&mut self, hub: &Hub) -> Option<usize> {
-        let present: Vec<usize> = hub.state().present().collect();
+        let mut present: Vec<usize> = hub.state().present().collect();
+        if self.mood == Mood::Advertising && self.random.percent(90) {
+            present.retain(|index| hub.state().controller(*index as u64).is_some_and(instances::can_have));
+        }
         if present.is_empty() {
             None
         } else if present.contains(&self.focus) && self.mood != Mood::Timers && self.random.percent(70) {
@@ -222,16 +239,21 @@ impl Generator {
         Call::Report { index, status, room: self.room() }
     }
 
-    /// A clock reading: short steps, steps to the end of a timer, and far ones.
+    /// A clock reading: short steps, steps to the end of a timer or of a turn, and far ones.
     fn clock(&mut self, hub: &Hub) -> Call {
         let timers = hub.state().controllers.iter().flatten().filter_map(|controller| controller.timer);
         let timers: Vec<u32> = timers.map(u32::from).collect();
+        let turns = instances::steps(&mut self.random, hub);
         let to_wrap = hub.state().clock.wrapping_neg();
         let step = match self.random.below(20) {
             0 => self.random.pick(&[0x7FFF_FFFF, 0x8000_0000, 0xFFFF_FFFF, 0x1_0000, 0x1_0001]),
             1 => self.random.bits() as u32,
             2 => to_wrap.wrapping_add(self.random.pick(&[0, 1, 0xFFFF_FFFF])),
-            3..=12 if !timers.is_empty() => {
+            3..=9 if !turns.is_empty() => {
+                let end = self.random.pick(&turns);
+                end.wrapping_add(self.random.pick(&[0, 0, 1, 0xFFFF_FFFF]))
+            }
+            6..=15 if !timers.is_empty() => {
                 let end = self.random.pick(&timers);
                 end.wrapping_add(self.random.pick(&[0, 0, 1, 0xFFFF_FFFF]))
             }
@@ -281,10 +303,10 @@ impl Generator {
         Call::Command { packet, room: self.room() }
     }
 
-    /// A code that is none of the 21.
+    /// A code that is none of the 23.
     fn unknown(&mut self, hub: &Hub) -> Call {
         let code = match self.random.below(3) {
-            0 => self.random.pick(&[0, 8, 0x0E, 0x28, 0x35, 0x100, 0x101, 0x105, 0xFFFF]),
+            0 => self.random.pick(&[0, 8, 0x0E, 0x28, 0x35, 0x3D, 0x40, 0x100, 0x101, 0x105, 0xFFFF]),
             1 => self.random.below(0x60) as u16,
             _ => self.random.bits() as u16,
         };
@@ -313,7 +335,13 @@ impl Generator {
             return self.command_to(code, hub, 0, self.focus as u16);
         };
         let field = if self.random.percent(3) { self.stray_index() as u16 } else { index as u16 };
-        self.command_to(code, hub, index, field)
+        let readied = hub.state().controller(index as u64).and_then(instances::ready);
+        match readied {
+            Some((code, value)) if self.mood == Mood::Advertising && self.random.percent(60) => {
+                Call::Command { packet: frame(code, field, &[value]), room: self.room() }
+            }
+            _ => self.command_to(code, hub, index, field),
+        }
     }
 
     /// A command with parameters for one controller and any index field.
@@ -322,9 +350,14 @@ impl Generator {
             Some(controller) => parameters::valid(&mut self.random, code, controller),
             None => self.random.octets(7),
         };
-        let long =
-            matches!(code, code::LOAD_LINK_KEYS | code::LOAD_LONG_TERM_KEYS | code::LOAD_IDENTITY_KEYS);
-        if self.random.percent(if long { 30 } else { 14 }) {
+        let many_values = matches!(
+            code,
+            code::LOAD_LINK_KEYS
+                | code::LOAD_LONG_TERM_KEYS
+                | code::LOAD_IDENTITY_KEYS
+                | code::ADD_ADVERTISING
+        );
+        if self.random.percent(if many_values { 30 } else { 14 }) {
             spoil_parameters(&mut self.random, code, &mut parameters);
             if self.random.percent(15) {
                 spoil_parameters(&mut self.random, code, &mut parameters);

@@ -65,8 +65,8 @@ fn one_octet(random: &mut Random, mut image: Vec<u8>) -> Vec<u8> {
 }
 
 /// Calls that end a list: what is under way fails, the settings are shown, the
-/// timers are run to their ends, and free slots are used in each table that can
-/// be filled one by one.
+/// timers are run to their ends, free slots are used in each table that can be
+/// filled one by one, and an advertising instance comes and all go.
 pub struct Closing {
     /// How many calls there were, failed reports aside.
     step: usize,
@@ -81,7 +81,7 @@ impl Closing {
     /// The next call, or none if all is shown.
     pub fn next(&mut self, hub: &Hub) -> Option<Call> {
         const CLOCKS: usize = 2 * CONTROLLERS;
-        const SHOWN: usize = 8;
+        const SHOWN: usize = 10;
         if let Some(index) = (0..CONTROLLERS as u64).find(|index| hub.open(*index).is_some()) {
             return Some(Call::Report { index, status: 3, room: REPLY_ROOM });
         }
@@ -121,6 +121,8 @@ fn show(index: u16, shown: usize) -> Call {
         3 | 4 => (code::BLOCK, peer(30 + shown)),
         5 => (code::ADD_DEVICE, [peer(30), vec![2]].concat()),
         6 => return Call::Save { room: IMAGE_ROOM },
+        7 => (code::ADD_ADVERTISING, [&[3, 0, 0, 0, 0, 9, 0, 0, 0, 1, 0][..], &[0xAD]].concat()),
+        8 => (code::REMOVE_ADVERTISING, vec![0]),
         _ => (code::REMOVE_DEVICE, vec![0; 7]),
     };
     Call::Command { packet: frame(code, index, &parameters), room: REPLY_ROOM }
@@ -138,7 +140,10 @@ fn starts(random: &mut Random, hub: &Hub, index: usize) -> Option<Call> {
         0 if hardware.supports_br_edr() && controller.connectable => {
             (code::SET_DISCOVERABLE, vec![random.between(1, 2) as u8, 1 + random.octet() / 2, random.octet()])
         }
-        1 if hardware.supports_low_energy() => (code::SET_LOW_ENERGY, vec![1]),
+        1 if hardware.supports_low_energy() => {
+            let off = hardware.supports_br_edr() && random.percent(50);
+            (code::SET_LOW_ENERGY, vec![u8::from(!off)])
+        }
         2 => (code::SET_CONNECTABLE, vec![random.below(2) as u8]),
         _ => (code::SET_POWERED, vec![0]),
     };

@@ -1,5 +1,6 @@
 //! Parameters that a command takes, chosen with the controller in view.
 
+use crate::instances;
 use crate::pools;
 use crate::random::Random;
 use crate::records::{key_list, Kind};
@@ -31,6 +32,7 @@ pub fn valid(random: &mut Random, code: u16, controller: &Controller) -> Vec<u8>
         }
         code::LOAD_LONG_TERM_KEYS => list(random, Kind::LongTermKey),
         code::LOAD_IDENTITY_KEYS => list(random, Kind::IdentityKey),
+        code::ADD_ADVERTISING | code::REMOVE_ADVERTISING => instances::valid(random, code, controller),
         _ => about_device(random, code, controller),
     }
 }

@@ -1,5 +1,6 @@
 //! Situations that a run should reach although no refusal shows them.
 
+use crate::on_air;
 use reference::codes::{command as code, status, CONTROLLERS, SLOTS};
 use reference::command::Command;
 use reference::controller::Controller;
@@ -28,11 +29,23 @@ pub fn situations(hub: &Hub, call: &Call) -> Vec<&'static str> {
         Call::Unplug { index, .. } => {
             see("unplug during a command", hub.open(*index).is_some());
             see("unplug beside another open command", hub.open(*index).is_some() && open(hub) > 1);
+            see("unplug with instances", advertises(hub.state().controller(*index)));
         }
-        Call::Save { .. } => see("save during a command", open(hub) > 0),
+        Call::Save { .. } => {
+            see("save during a command", open(hub) > 0);
+            see(
+                "save with instances",
+                (0..CONTROLLERS as u64).any(|k| advertises(hub.state().controller(k))),
+            );
+        }
         _ => {}
     }
     found
+}
+
+/// Whether a controller is there and has an advertising instance.
+fn advertises(controller: Option<&Controller>) -> bool {
+    controller.is_some_and(|controller| controller.advertising.present().next().is_some())
 }
 
 /// How many commands are under way.
@@ -41,7 +54,7 @@ fn open(hub: &Hub) -> usize {
 }
 
 /// Notes a name if it holds.
-type See<'a> = dyn FnMut(&'static str, bool) + 'a;
+pub type See<'a> = dyn FnMut(&'static str, bool) + 'a;
 
 /// Whether a free slot comes before a taken one.
 fn has_gap<R: Record>(table: &Table<R>) -> bool {
@@ -66,6 +79,7 @@ fn at_clock(hub: &Hub, reading: u32, see: &mut See) {
     see("one timer ends, one goes on", ended >= 1 && ended < timers.len());
     see("timer ends during a command", busy.clone().any(|(_, seconds)| *seconds <= step));
     see("timer goes on during a command", busy.clone().any(|(_, seconds)| *seconds > step && step > 0));
+    on_air::at_clock(hub, step, see);
 }
 
 /// A report of success.
@@ -80,7 +94,10 @@ fn at_report(hub: &Hub, index: u64, see: &mut See) {
         Command::SetPowered(0) => {
             see("power off ends a timer", timed);
             see("power off leaves discoverable", shown && !timed);
+            on_air::at_setting(controller, Some(false), see);
         }
+        Command::SetPowered(_) => on_air::at_setting(controller, Some(true), see),
+        Command::SetLowEnergy(0) => on_air::at_setting(controller, None, see),
         Command::SetConnectable(0) => {
             see("connectable off ends a timer", timed);
             see("connectable off ends discoverable", shown && !timed);
@@ -121,6 +138,9 @@ fn at_command(hub: &Hub, packet: &[u8], see: &mut See) {
             see("all of a full action list removed", controller.devices.is_full());
         }
         Command::Unpair { peer, .. } => unpaired(controller, &peer, see),
+        Command::AddAdvertising(new) => on_air::at_add(controller, busy, &new, see),
+        Command::RemoveAdvertising(which) => on_air::at_remove(controller, which, see),
+        Command::SetLowEnergy(0) if !controller.powered => on_air::at_setting(controller, None, see),
         command => at_other(controller, &command, see),
     }
 }
@@ -179,7 +199,7 @@ fn unpaired(controller: &Controller, peer: &Peer, see: &mut See) {
     see("zero address unpaired", peer.is_zero());
 }
 
-/// All names that a run should come to.
+/// All names that a run should come to, those of advertising aside.
 pub const EXPECTED: [&str; 41] = [
     "failed report beside another open command",
     "unplug during a command",

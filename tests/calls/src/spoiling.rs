@@ -1,5 +1,6 @@
 //! One thing wrong in parameters that were right.
 
+use crate::instances;
 use crate::pools;
 use crate::random::Random;
 use crate::records::{repeat, spoil, Kind};
@@ -26,6 +27,7 @@ pub fn spoil_parameters(random: &mut Random, code: u16, parameters: &mut Vec<u8>
         code::UNPAIR | code::BLOCK | code::UNBLOCK | code::ADD_DEVICE | code::REMOVE_DEVICE => {
             device(random, code, parameters)
         }
+        code::ADD_ADVERTISING | code::REMOVE_ADVERTISING => instances::spoil(random, code, parameters),
         _ => set(parameters, 0, random.pick(&[2, 3, 0x80, 0xFF])),
     }
 }

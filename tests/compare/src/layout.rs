@@ -1,6 +1,7 @@
 //! The octets of the lent state, written from docs/STATE-LAYOUT.md: what a C host finds in its buffer after each call.
 
 use crate::lent::Difference;
+use crate::schedule;
 use reference::codes::CONTROLLERS;
 use reference::command::Command;
 use reference::controller::Controller;
@@ -8,17 +9,20 @@ use reference::records::Record;
 use reference::state::State;
 use reference::table::Table;
 use reference::Hub;
+use std::ops::Range;
 
 /// The octets of a state.
-pub const STATE: usize = 16_116;
+pub const STATE: usize = 17_488;
 /// Where the first controller's block begins, behind the clock.
 const BLOCKS: usize = 4;
 /// The octets of a block.
-const BLOCK: usize = 4_028;
+const BLOCK: usize = 4_371;
 /// Where the open command stands in a block, and how many octets it has: its code and up to three parameters.
 const OPEN: usize = 1;
 /// The octets of an open command.
 const OPEN_OCTETS: usize = 5;
+/// Where the advertising instances stand in a block, which they end.
+pub const ADVERTISING: usize = 4_028;
 
 /// The state of a hub, its open commands included.
 pub fn encode(hub: &Hub) -> Vec<u8> {
@@ -43,6 +47,12 @@ pub fn encode_at_once(state: &State) -> Vec<u8> {
         }
     }
     out
+}
+
+/// Where the block of an index stands in a state.
+pub fn block(index: usize) -> Range<usize> {
+    let at = BLOCKS + BLOCK * index;
+    at..at + BLOCK
 }
 
 /// A state with its open commands cleared.
@@ -115,6 +125,7 @@ fn fill(block: &mut [u8], controller: &Controller) {
     table(&mut block[2800..3540], &controller.identity_keys);
     table(&mut block[3540..3768], &controller.blocked);
     table(&mut block[3768..4028], &controller.devices);
+    schedule::write(&mut block[ADVERTISING..], &controller.advertising);
 }
 
 /// A table: the word of its slots in use, then the slots.

@@ -60,6 +60,11 @@ impl<T: Target> Lent<T> {
         self.state[..T::STATE_LEN].fill(octet);
     }
 
+    /// Fills the state buffer with other octets, as many as a state has.
+    pub fn put_state(&mut self, octets: &[u8]) {
+        self.state[..T::STATE_LEN].copy_from_slice(octets);
+    }
+
     /// Makes a call on the buffer. It is an error if octets past the count or
     /// behind a buffer changed, or if a refused call changed the state.
     pub fn call(&mut self, call: &Call) -> Result<Reply, Difference> {
@@ -78,6 +83,19 @@ impl<T: Target> Lent<T> {
     pub fn name(&mut self, index: u64, which: u64, room: usize, length: usize) -> Result<Reply, Difference> {
         self.before_call(room);
         let number = self.target.name(&self.state[..length], index, which, &mut self.reply[..room]);
+        self.after_question(number, room, length)
+    }
+
+    /// Asks what is on air, with a state buffer of a length.
+    pub fn on_air(&mut self, index: u64, room: usize, length: usize) -> Result<Reply, Difference> {
+        self.before_call(room);
+        let number = self.target.on_air(&self.state[..length], index, &mut self.reply[..room]);
+        self.after_question(number, room, length)
+    }
+
+    /// What a question gave; an error if the state changed.
+    fn after_question(&self, number: u64, room: usize, length: usize) -> Result<Reply, Difference> {
+        need(self.state == self.before, || "a question changed the state".into())?;
         self.after_call(number, room, length)
     }
 

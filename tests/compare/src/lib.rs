@@ -4,13 +4,17 @@
 #![forbid(unsafe_code)]
 #![warn(missing_docs)]
 
+pub mod altered;
 pub mod layout;
 pub mod lent;
 pub mod mirror;
-pub mod names;
+pub mod playing;
+pub mod questions;
 pub mod run;
+pub mod schedule;
 pub mod script;
 pub mod shrink;
+pub mod switches;
 pub mod target;
 #[cfg(test)]
 mod tests;

@@ -50,6 +50,8 @@ extern "C" {
         reply: *mut u8,
         reply_len: usize,
     ) -> u64;
+    /// What is on air is asked for.
+    fn hub_on_air(state: *const u8, state_len: usize, index: u64, reply: *mut u8, reply_len: usize) -> u64;
     /// A state is made from an image.
     fn hub_load(state: *mut u8, state_len: usize, image: *const u8, image_len: usize) -> u64;
 }
@@ -58,7 +60,7 @@ extern "C" {
 pub struct Library;
 
 impl Target for Library {
-    const STATE_LEN: usize = 16_116;
+    const STATE_LEN: usize = 17_488;
 
     fn call(&mut self, state: &mut [u8], call: &Call, reply: &mut [u8]) -> u64 {
         let (state, state_len) = (state.as_mut_ptr(), state.len());
@@ -95,6 +97,11 @@ impl Target for Library {
     fn name(&mut self, state: &[u8], index: u64, which: u64, reply: &mut [u8]) -> u64 {
         // As above.
         unsafe { hub_name(state.as_ptr(), state.len(), index, which, reply.as_mut_ptr(), reply.len()) }
+    }
+
+    fn on_air(&mut self, state: &[u8], index: u64, reply: &mut [u8]) -> u64 {
+        // As above.
+        unsafe { hub_on_air(state.as_ptr(), state.len(), index, reply.as_mut_ptr(), reply.len()) }
     }
 
     fn load(&mut self, state: &mut [u8], image: &[u8]) -> u64 {

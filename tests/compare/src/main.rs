@@ -37,12 +37,14 @@ fn main() -> ExitCode {
     let mut comparison = Comparison::new(seed, Library, Library);
     let result = comparison.run(count);
     println!(
-        "{} calls in {} lists, {} calls of reduced lists, {} commands under way at an end, {} images, {:.1} s",
+        "{} calls in {} lists, {} calls of reduced lists, {} commands under way at an end, {} images, {} altered states ({} well formed), {:.1} s",
         comparison.calls,
         comparison.runs,
         comparison.reduced,
         comparison.left_open,
         comparison.images,
+        comparison.altered.lent,
+        comparison.altered.well_formed,
         start.elapsed().as_secs_f64()
     );
     match result {

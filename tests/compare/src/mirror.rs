@@ -1,9 +1,11 @@
 //! The reference hub behind a state buffer, to try the comparison itself.
 //!
 //! The buffer holds the octets of the state; they are not read back, but looked
-//! for among those of the last states, which are kept aside.
+//! for among those of the last states, which are kept aside. The advertising parts,
+//! power and LE alone may be others, and are read.
 
-use crate::layout::{encode, STATE};
+use crate::layout::{block, encode, ADVERTISING, STATE};
+use crate::switches::{self, LOW_ENERGY, POWERED};
 use crate::target::Target;
 use reference::codes::answer;
 use reference::{Call, Hub, Reply};
@@ -28,7 +30,31 @@ pub fn number(reply: &Reply, buffer: &mut [u8]) -> u64 {
 impl Mirror {
     /// The hub that a buffer stands for.
     fn read(&self, state: &[u8]) -> Option<Hub> {
-        self.kept.iter().rev().find(|(kept, _)| kept == state).map(|(_, hub)| hub.clone())
+        let same = self.kept.iter().rev().find(|(kept, _)| kept == state);
+        same.map(|(_, hub)| hub.clone()).or_else(|| self.read_altered(state))
+    }
+
+    /// The hub that a buffer stands for which differs from a kept state in advertising parts, power and LE alone.
+    fn read_altered(&self, state: &[u8]) -> Option<Hub> {
+        let like = |hub: &Hub| {
+            let mut octets = encode(hub);
+            for index in hub.state().present() {
+                let (kept, found) = (&mut octets[block(index)], state.get(block(index))?);
+                kept[ADVERTISING..].copy_from_slice(&found[ADVERTISING..]);
+                for at in [POWERED, LOW_ENERGY] {
+                    kept[at] = found[at];
+                }
+            }
+            (octets == state).then_some(())
+        };
+        let (_, kept) = self.kept.iter().rev().find(|(_, hub)| like(hub).is_some())?;
+        let mut hub = kept.clone();
+        for index in kept.state().present() {
+            let (controller, open) =
+                (kept.state().controller(index as u64)?, kept.open(index as u64).is_some());
+            hub = hub.with_controller(index, switches::read(&state[block(index)], controller, open)?);
+        }
+        Some(hub)
     }
 
     /// Puts the octets of a hub into a buffer.
@@ -61,6 +87,13 @@ impl Target for Mirror {
     fn name(&mut self, state: &[u8], index: u64, which: u64, reply: &mut [u8]) -> u64 {
         match self.read(state) {
             Some(hub) => number(&hub.name(index, which, reply.len()), reply),
+            None => answer::STATE.into(),
+        }
+    }
+
+    fn on_air(&mut self, state: &[u8], index: u64, reply: &mut [u8]) -> u64 {
+        match self.read(state) {
+            Some(hub) => number(&hub.on_air(index, reply.len()), reply),
             None => answer::STATE.into(),
         }
     }

@@ -1,10 +1,12 @@
 //! Random lists and images on a target and on the reference hub side by side.
 
+use crate::altered::{altered_states_agree, Altered};
 use crate::layout::{cleared, encode, encode_at_once, same_state};
 use crate::lent::{Difference, Lent};
-use crate::names::names_agree;
+use crate::questions::questions_agree;
 use crate::target::Target;
 use calls::lists::Lists;
+use calls::Random;
 use reference::codes::{answer, CONTROLLERS, IMAGE_ROOM, REPLY_ROOM};
 use reference::packet::Packet;
 use reference::{reduce, AtOnceHub, Call, Hub, Reply, Traced};
@@ -20,6 +22,8 @@ const OPEN_ENDS: usize = 3;
 pub struct Comparison<T: Target> {
     /// Where the lists come from.
     lists: Lists,
+    /// Where the altered states come from.
+    random: Random,
     /// The state buffer that the lists run on.
     lent: Lent<T>,
     /// The state buffer that the reduced lists run on.
@@ -34,6 +38,8 @@ pub struct Comparison<T: Target> {
     pub reduced: usize,
     /// Commands that were under way at the end of a list.
     pub left_open: usize,
+    /// States lent with another advertising part.
+    pub altered: Altered,
 }
 
 /// A list that the hubs differ on.
@@ -94,6 +100,7 @@ impl<T: Target> Comparison<T> {
     pub fn new(seed: u64, target: T, other: T) -> Comparison<T> {
         Comparison {
             lists: Lists::new(seed),
+            random: Random::new(!seed),
             lent: Lent::new(target),
             at_once: Lent::new(other),
             calls: 0,
@@ -101,6 +108,7 @@ impl<T: Target> Comparison<T> {
             images: 0,
             reduced: 0,
             left_open: 0,
+            altered: Altered::default(),
         }
     }
 
@@ -137,7 +145,7 @@ impl<T: Target> Comparison<T> {
             self.calls += 1;
             if result.is_ok() && list.len() % SAVES == 0 {
                 result = images_agree(&mut self.lent, &hub.save(IMAGE_ROOM));
-                result = result.and_then(|()| names_agree(&mut self.lent, &hub));
+                result = result.and_then(|()| questions_agree(&mut self.lent, &hub));
             }
         }
         let result = result.and_then(|()| self.finish(&image, &hub, &list));
@@ -162,7 +170,7 @@ impl<T: Target> Comparison<T> {
     /// commands are cleared.
     fn finish(&mut self, image: &[u8], hub: &Hub, list: &[Traced]) -> Result<(), Difference> {
         images_agree(&mut self.lent, &hub.save(IMAGE_ROOM))?;
-        names_agree(&mut self.lent, hub)?;
+        questions_agree(&mut self.lent, hub)?;
         let mut plain = AtOnceHub::new();
         plain.load(image);
         for expected in reduce(list) {
@@ -177,7 +185,8 @@ impl<T: Target> Comparison<T> {
         self.left_open += (0..CONTROLLERS as u64).filter(|index| hub.open(*index).is_some()).count();
         let expected = encode_at_once(plain.state());
         same_state("the state of the reduced list, reported at once", &expected, self.at_once.state())?;
-        same_state("the state, open commands cleared", &expected, &cleared(self.lent.state()))
+        same_state("the state, open commands cleared", &expected, &cleared(self.lent.state()))?;
+        altered_states_agree(&mut self.lent, hub, &mut self.random, &mut self.altered)
     }
 
     /// Loads an image on both and compares what it makes.

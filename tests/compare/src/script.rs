@@ -9,6 +9,13 @@ pub enum Step {
     Call(Call),
     /// A load of an image.
     Load(Vec<u8>),
+    /// What is on air is asked for.
+    OnAir {
+        /// The controller.
+        index: u64,
+        /// Length of the reply buffer.
+        room: usize,
+    },
 }
 
 /// A call with what it gives.
@@ -81,6 +88,7 @@ fn step(words: &[&str], room: Option<usize>) -> Step {
     let replies = room.unwrap_or(REPLY_ROOM);
     Step::Call(match words[0] {
         "load" => return Step::Load(octets(&words[1..])),
+        "on-air" => return Step::OnAir { index: number(1), room: replies },
         "command" => Call::Command { packet: octets(&words[1..]), room: replies },
         "report" => Call::Report { index: number(1), status: number(2), room: replies },
         "clock" => Call::Clock { reading: number(1) as u32, room: replies },

@@ -1,6 +1,7 @@
 //! Shorter lists that show the same kind of difference.
 
 use crate::lent::{Difference, Lent};
+use crate::questions::questions_agree;
 use crate::run::{image_agrees, images_agree, step, Failure};
 use crate::target::Target;
 use reference::codes::IMAGE_ROOM;
@@ -17,7 +18,8 @@ pub fn replay<T: Target>(lent: &mut Lent<T>, image: &[u8], calls: &[Call]) -> Op
             return Some(difference);
         }
     }
-    images_agree(lent, &hub.save(IMAGE_ROOM)).err()
+    let images = images_agree(lent, &hub.save(IMAGE_ROOM));
+    images.and_then(|()| questions_agree(lent, &hub)).err()
 }
 
 /// Leaves out calls as long as a difference stays; a list whose difference does

@@ -14,6 +14,9 @@ pub trait Target {
     /// The used part of a name; the state is only read.
     fn name(&mut self, state: &[u8], index: u64, which: u64, reply: &mut [u8]) -> u64;
 
+    /// What the instance on air sends; the state is only read.
+    fn on_air(&mut self, state: &[u8], index: u64, reply: &mut [u8]) -> u64;
+
     /// A load.
     fn load(&mut self, state: &mut [u8], image: &[u8]) -> u64;
 }

@@ -1,14 +1,23 @@
 //! The comparison finds nothing between the reference hub and itself, and finds
 //! each fault that is put in.
 
-use crate::layout::{cleared, encode, encode_at_once, same_state, STATE};
+use crate::layout::{block, cleared, encode, encode_at_once, same_state, ADVERTISING, STATE};
 use crate::mirror::Mirror;
+use crate::playing::play;
 use crate::run::{Comparison, Failure};
+use crate::schedule::read;
+use crate::script::examples;
 use crate::shrink::shrink;
+use crate::switches;
 use crate::target::Target;
 use reference::codes::command as code;
+use reference::controller::Controller;
 use reference::packet::frame;
 use reference::{Call, Hub};
+use std::fs::{read_dir, read_to_string};
+
+/// The octets of a block.
+const BLOCK: usize = 4_371;
 
 /// What a faulty hub does wrong.
 #[derive(Clone, Copy, Debug)]
@@ -33,6 +42,12 @@ enum Fault {
     Place,
     /// The zero that ends a name is told too.
     Name,
+    /// The two lengths of what is on air are told in the wrong order.
+    OnAir,
+    /// The clock leaves a second more of a turn.
+    Turn,
+    /// A state that is not well formed is taken.
+    Takes,
     /// Images are taken that should not be.
     Image,
     /// A state buffer that is too long is taken.
@@ -59,8 +74,16 @@ fn is_command(call: &Call, code: u16) -> bool {
 
 /// The index at which a command is under way that was not before.
 fn open_index(before: &[u8], after: &[u8]) -> u8 {
-    let opened = |index: &usize| before[4 + 4028 * index + 1] != after[4 + 4028 * index + 1];
+    let opened = |index: &usize| before[4 + BLOCK * index + 1] != after[4 + BLOCK * index + 1];
     (0..4).find(opened).expect("a command is started") as u8
+}
+
+/// Leaves a second more of the first turn that there is.
+fn longer_turn(state: &mut [u8]) {
+    let turns = (0..4).map(|index| 4 + BLOCK * index + 4048);
+    if let Some(at) = turns.into_iter().find(|at| state[*at] != 0) {
+        state[at + 1] = state[at + 1].wrapping_add(1);
+    }
 }
 
 impl Target for Faulty {
@@ -79,8 +102,9 @@ impl Target for Faulty {
             Fault::Answer if answer == 1 => return number - 1,
             Fault::State if answer == 2 => state[10] ^= 1,
             Fault::Forgets if is_command(call, code::SET_BONDABLE) => state.copy_from_slice(&before),
-            Fault::Kept if answer == 1 => state[4 + 4028 * usize::from(open_index(&before, state)) + 4] ^= 1,
-            Fault::Place if matches!(call, Call::Plug { .. }) && answer == 0 => state[16_115] ^= 1,
+            Fault::Kept if answer == 1 => state[4 + BLOCK * usize::from(open_index(&before, state)) + 4] ^= 1,
+            Fault::Place if matches!(call, Call::Plug { .. }) && answer == 0 => state[STATE - 1] ^= 1,
+            Fault::Turn if matches!(call, Call::Clock { .. }) && state != before => longer_turn(state),
             Fault::StaysOpen if matches!(call, Call::Report { status: 1.., .. }) => {
                 state.copy_from_slice(&before)
             }
@@ -99,6 +123,16 @@ impl Target for Faulty {
             }
             _ => number,
         }
+    }
+
+    fn on_air(&mut self, state: &[u8], index: u64, reply: &mut [u8]) -> u64 {
+        let number = self.inner.on_air(state, index, reply);
+        match self.fault {
+            Fault::OnAir if number > 255 => reply.swap(1, 2),
+            Fault::Takes if number == 5 && state.len() == Self::STATE_LEN => return 0,
+            _ => {}
+        }
+        number
     }
 
     fn load(&mut self, state: &mut [u8], image: &[u8]) -> u64 {
@@ -124,14 +158,18 @@ fn the_reference_hub_agrees_with_itself() {
     }
     assert!(comparison.calls >= 20_000 && comparison.reduced > 10_000 && comparison.images > 100);
     assert!(comparison.left_open > 10, "{} commands under way at an end", comparison.left_open);
+    let altered = comparison.altered;
+    assert!(altered.well_formed > 100 && altered.lent - altered.well_formed > 100, "{altered:?}");
 }
 
 #[test]
 fn a_difference_that_no_reply_shows_is_found_by_its_octet() {
     let kept = failure(Fault::Kept).difference;
     assert!(kept.starts_with("the state differs: octet 4 of block "), "{kept}");
+    let takes = failure(Fault::Takes).difference;
+    assert!(takes.starts_with("an altered state at index "), "{takes}");
     let place = failure(Fault::Place).difference;
-    assert!(place.starts_with("the state differs: octet 4027 of block 3 "), "{place}");
+    assert!(place.starts_with("the state differs: octet 4370 of block 3 "), "{place}");
 }
 
 /// Makes a call that must be answered so.
@@ -165,17 +203,143 @@ fn the_state_is_laid_out_as_the_document_says() {
     let hub = small_hub();
     let mut expected = vec![0; STATE];
     expected[..4].copy_from_slice(&[1, 2, 3, 4]);
-    let block = &mut expected[4032..8060];
+    let block = &mut expected[4375..8746];
     block[..6].copy_from_slice(&[1, 0x06, 0x00, 2, 0x34, 0x12]);
     let given = [9, 0x0B, 0x0A, 0xDB, 0x02, 0, 0, 0x11, 0x22, 0x33, 0x44, 0x55, 0x66];
     block[6..19].copy_from_slice(&given);
     block[19..24].copy_from_slice(&[1, 1, 0, 0, 1]);
     block[3768..3780].copy_from_slice(&[1, 0, 0, 0, 1, 2, 3, 4, 5, 6, 1, 2]);
     assert_eq!(same_state("", &expected, &encode(&hub)), Ok(()));
-    expected[4033..4038].fill(0);
+    expected[4376..4381].fill(0);
     assert_eq!(encode_at_once(hub.state()), expected);
     assert_eq!(cleared(&encode(&hub)), expected);
     assert_eq!(encode(&Hub::new()), vec![0; STATE]);
+}
+
+#[test]
+fn advertising_ends_the_block_as_the_document_says() {
+    let command = |code, parameters: &[u8]| Call::Command { packet: frame(code, 1, parameters), room: 1024 };
+    let mut hub = small_hub();
+    let five = [&[5, 0, 0, 0, 0, 0x34, 0x12, 0xBC, 0x0A, 2, 31][..], &[0xA1, 0xA2], &[0xB0; 31]].concat();
+    must(&mut hub, command(code::ADD_ADVERTISING, &five), 0);
+    must(&mut hub, command(code::ADD_ADVERTISING, &[2, 0, 0, 0, 0, 0, 0, 0, 0, 1, 0, 0xAD]), 0);
+    let before = encode(&small_hub());
+    let mut expected = before.clone();
+    let block = &mut expected[4375..8746];
+    block[4028..4038].copy_from_slice(&[0, 0, 2, 0, 0, 0, 0, 0, 0x34, 0x12]);
+    block[4038..4048].copy_from_slice(&[0, 0, 0, 0, 0, 0, 0, 0, 0xBC, 0x0A]);
+    block[4048..4051].copy_from_slice(&[5, 0x34, 0x12]);
+    block[4083..4085].copy_from_slice(&[1, 0xAD]);
+    block[4179..4182].copy_from_slice(&[2, 0xA1, 0xA2]);
+    block[4339] = 31;
+    block[4340..4371].fill(0xB0);
+    assert_eq!(same_state("", &expected, &encode(&hub)), Ok(()));
+    must(&mut hub, command(code::REMOVE_ADVERTISING, &[0]), 0);
+    assert_eq!(encode(&hub), before);
+}
+
+/// A change of the advertising part by hand.
+type Edit = fn(&mut [u8]);
+
+/// `small_hub` with instance 2, and with instance 5 on air.
+fn hub_on_air() -> Hub {
+    let command = |parameters: &[u8]| frame(code::ADD_ADVERTISING, 1, parameters);
+    let mut hub = small_hub();
+    for packet in
+        [command(&[5, 0, 0, 0, 0, 9, 0, 3, 0, 1, 1, 0xAD, 0x5C]), command(&[2, 0, 0, 0, 0, 4, 0, 0, 0, 0, 0])]
+    {
+        must(&mut hub, Call::Command { packet, room: 1024 }, 0);
+    }
+    hub
+}
+
+#[test]
+fn power_and_low_energy_decide_what_the_advertising_part_may_be() {
+    let hub = hub_on_air();
+    let mut controller = hub.state().controller(1).expect("it is plugged").clone();
+    let part = encode(&hub)[block(1)][ADVERTISING..].to_vec();
+    let mut off_air = part.clone();
+    off_air[20..23].fill(0);
+    let mut untimed = off_air.clone();
+    untimed[10..20].fill(0);
+    let zeros = vec![0; part.len()];
+    let well_formed = |controller: &Controller| {
+        [&part, &off_air, &untimed, &zeros].map(|part| read(part, controller).is_some())
+    };
+    assert_eq!(well_formed(&controller), [true, false, false, true]);
+    controller.powered = false;
+    assert_eq!(well_formed(&controller), [false, false, true, true]);
+    controller.low_energy = false;
+    assert_eq!(well_formed(&controller), [false, false, false, true]);
+    controller.powered = true;
+    assert_eq!(well_formed(&controller), [false, false, false, true]);
+}
+
+#[test]
+fn power_and_low_energy_have_to_fit_the_other_settings() {
+    const LE_ONLY: u32 = 0x0201;
+    let mut hub = Hub::new();
+    let plug = |index, supported| {
+        let address = vec![0x11 * u8::from(supported != LE_ONLY); 6];
+        Call::Plug { index, address, version: 9, manufacturer: 15, supported, room: 1024 }
+    };
+    for (index, supported) in [(0, 0x0281), (1, 0x0081), (2, LE_ONLY)] {
+        must(&mut hub, plug(index, supported), 0);
+    }
+    let well_formed = |index: usize, power: u8, low_energy: u8, open: bool| {
+        let mut octets = encode(&hub)[block(index)].to_vec();
+        (octets[switches::POWERED], octets[switches::LOW_ENERGY]) = (power, low_energy);
+        let controller = hub.state().controller(index as u64).expect("it is plugged");
+        switches::read(&octets, controller, open).is_some()
+    };
+    let all = |index, open| [(0, 0), (0, 1), (1, 0), (1, 1)].map(|(p, le)| well_formed(index, p, le, open));
+    assert_eq!(all(0, false), [true; 4]);
+    assert_eq!(all(0, true), [true, true, false, false]);
+    assert_eq!(all(1, false), [true, false, true, false]);
+    assert_eq!(all(2, false), [false, true, false, false]);
+    assert!(!well_formed(0, 2, 1, false) && !well_formed(0, 0, 0xFF, false));
+}
+
+#[test]
+fn the_advertising_part_is_read_only_where_it_is_well_formed() {
+    let hub = hub_on_air();
+    let controller = hub.state().controller(1).expect("it is plugged");
+    let part = encode(&hub)[block(1)][ADVERTISING..].to_vec();
+    assert_eq!(read(&part, controller).as_ref(), Some(&controller.advertising));
+    let well_formed: [Edit; 6] = [
+        |part| part[21] = 1,
+        |part| part[20..23].copy_from_slice(&[2, 4, 0]),
+        |part| part[8..10].fill(0xFF),
+        |part| part[18..20].fill(0),
+        |part| part[23 + 32] = 31,
+        |part| part.fill(0),
+    ];
+    let malformed: [Edit; 13] = [
+        |part| part[20..23].fill(0),
+        |part| part[20] = 0,
+        |part| part[20] = 1,
+        |part| part[20] = 6,
+        |part| part[20] = 0xFF,
+        |part| part[21] = 0,
+        |part| part[21] = 10,
+        |part| part[8] = 0,
+        |part| part[10] = 1,
+        |part| part[23] = 1,
+        |part| part[23 + 32] = 32,
+        |part| part[23 + 4 * 32 + 2] = 1,
+        |part| part[23 + 4 * 32] = 0,
+    ];
+    let changed = |edit: &Edit| {
+        let mut part = part.clone();
+        edit(&mut part);
+        read(&part, controller)
+    };
+    for (place, edit) in well_formed.iter().enumerate() {
+        assert!(changed(edit).is_some(), "well formed {place}");
+    }
+    for (place, edit) in malformed.iter().enumerate() {
+        assert_eq!(changed(edit), None, "malformed {place}");
+    }
 }
 
 #[test]
@@ -191,6 +355,9 @@ fn every_fault_is_found() {
         Fault::Kept,
         Fault::Place,
         Fault::Name,
+        Fault::OnAir,
+        Fault::Turn,
+        Fault::Takes,
         Fault::Image,
         Fault::Length,
     ];
@@ -206,4 +373,30 @@ fn a_difference_shrinks_to_few_calls() {
     let small = shrink(comparison.lent(), found);
     assert!(small.calls.len() <= 3, "{:?}", small.calls);
     assert!(small.calls.iter().any(|call| is_command(call, code::SET_BONDABLE)));
+}
+
+#[test]
+fn a_wrong_answer_to_a_question_shrinks_too() {
+    let found = failure(Fault::OnAir);
+    assert!(found.difference.starts_with("on air at index "), "{}", found.difference);
+    let mut comparison = Comparison::new(3, Faulty::new(Fault::OnAir), Faulty::new(Fault::OnAir));
+    let small = shrink(comparison.lent(), found);
+    assert!(small.calls.len() <= 4, "{:?}", small.calls);
+    assert!(small.calls.iter().any(|call| is_command(call, code::ADD_ADVERTISING)));
+}
+
+#[test]
+fn the_examples_hold_of_the_reference_hub() {
+    let folder = concat!(env!("CARGO_MANIFEST_DIR"), "/../examples");
+    let paths = read_dir(folder).expect("the examples are there").map(|entry| entry.expect("a file").path());
+    let mut files = 0;
+    for path in paths.filter(|path| path.extension().is_some_and(|ending| ending == "txt")) {
+        files += 1;
+        for example in examples(&read_to_string(&path).expect("an example file")) {
+            if let Err(difference) = play(&example, Mirror::default()) {
+                panic!("{}: {}: {difference}", path.display(), example.title);
+            }
+        }
+    }
+    assert!(files > 5, "{files} files");
 }

@@ -1,7 +1,8 @@
 //! The checks on a command whose length fits, in the order of the rules.
 
+use crate::advertising::{DATA, INSTANCES};
 use crate::codes::SLOTS;
-use crate::command::Command;
+use crate::command::{Command, NewInstance};
 use crate::controller::{Controller, LocalName};
 use crate::reason::Reason;
 use crate::records::{is_static_random, list_fault, Peer, Record, Service, BR_EDR};
@@ -80,7 +81,8 @@ fn wrong_value(case: &Case) -> Option<Reason> {
         Command::Block(peer) | Command::Unblock(peer) => peer.fault(),
         Command::AddDevice(device) => device.fault(),
         Command::RemoveDevice(peer) => wrong_removal(peer),
-        Command::ReadInformation | Command::RemoveUuid(_) => None,
+        Command::AddAdvertising(new) => wrong_instance(new),
+        Command::ReadInformation | Command::RemoveUuid(_) | Command::RemoveAdvertising(_) => None,
     }
 }
 
@@ -108,6 +110,19 @@ fn wrong_name(names: &LocalName) -> Option<Reason> {
 fn wrong_removal(peer: &Peer) -> Option<Reason> {
     let zero = peer.is_zero() && peer.address_type != BR_EDR;
     peer.type_fault().or(zero.then_some(Reason::ZeroAddress))
+}
+
+/// An instance of 1 to 5, no flags, and at most 31 octets of each data.
+fn wrong_instance(new: &NewInstance) -> Option<Reason> {
+    if new.instance == 0 || usize::from(new.instance) > INSTANCES {
+        Some(Reason::Instance)
+    } else if new.flags != 0 {
+        Some(Reason::AdvertisingFlags)
+    } else if new.data.len() > DATA {
+        Some(Reason::AdvertisingLength)
+    } else {
+        (new.scan_response.len() > DATA).then_some(Reason::ScanResponseLength)
+    }
 }
 
 /// The controller lacks what the command is about.
@@ -158,6 +173,10 @@ fn rejected(case: &Case) -> Option<Reason> {
         }
         Command::SetLowEnergy(0) => (!controller.hardware.supports_br_edr()).then_some(Reason::OnlyLowEnergy),
         Command::SetStaticAddress(_) => controller.powered.then_some(Reason::Powered),
+        Command::AddAdvertising(_) if !controller.low_energy => Some(Reason::LowEnergyOff),
+        Command::AddAdvertising(new) => {
+            (new.timeout != 0 && !controller.powered).then_some(Reason::TimeoutUnpowered)
+        }
         _ => None,
     }
 }
@@ -186,6 +205,10 @@ fn table_answer(case: &Case) -> Option<Reason> {
         Command::RemoveDevice(peer) => {
             let absent = !controller.devices.entries().any(|device| device.peer == *peer);
             (absent && !peer.is_zero()).then_some(Reason::Absent)
+        }
+        Command::RemoveAdvertising(0) => None,
+        Command::RemoveAdvertising(which) => {
+            controller.advertising.instance(*which).is_none().then_some(Reason::Absent)
         }
         _ => None,
     }

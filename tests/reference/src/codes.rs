@@ -44,9 +44,13 @@ pub mod command {
     pub const ADD_DEVICE: u16 = 0x0033;
     /// Remove Device.
     pub const REMOVE_DEVICE: u16 = 0x0034;
+    /// Add Advertising.
+    pub const ADD_ADVERTISING: u16 = 0x003E;
+    /// Remove Advertising.
+    pub const REMOVE_ADVERTISING: u16 = 0x003F;
 
-    /// The 21 known codes, ascending.
-    pub const KNOWN: [u16; 21] = [
+    /// The 23 known codes, ascending.
+    pub const KNOWN: [u16; 23] = [
         READ_VERSION,
         READ_COMMANDS,
         READ_INDEX_LIST,
@@ -68,6 +72,8 @@ pub mod command {
         LOAD_IDENTITY_KEYS,
         ADD_DEVICE,
         REMOVE_DEVICE,
+        ADD_ADVERTISING,
+        REMOVE_ADVERTISING,
     ];
 }
 
@@ -97,9 +103,13 @@ pub mod event {
     pub const DEVICE_ADDED: u16 = 0x001A;
     /// Device Removed.
     pub const DEVICE_REMOVED: u16 = 0x001B;
+    /// Advertising Added.
+    pub const ADVERTISING_ADDED: u16 = 0x0023;
+    /// Advertising Removed.
+    pub const ADVERTISING_REMOVED: u16 = 0x0024;
 
     /// The events that Read Management Supported Commands lists, ascending.
-    pub const LISTED: [u16; 10] = [
+    pub const LISTED: [u16; 12] = [
         INDEX_ADDED,
         INDEX_REMOVED,
         NEW_SETTINGS,
@@ -110,6 +120,8 @@ pub mod event {
         DEVICE_UNPAIRED,
         DEVICE_ADDED,
         DEVICE_REMOVED,
+        ADVERTISING_ADDED,
+        ADVERTISING_REMOVED,
     ];
 }
 

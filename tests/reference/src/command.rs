@@ -60,9 +60,54 @@ pub enum Command {
     AddDevice(Device),
     /// Remove Device.
     RemoveDevice(Peer),
+    /// Add Advertising.
+    AddAdvertising(Box<NewInstance>),
+    /// Remove Advertising: of this instance, or of all for 0.
+    RemoveAdvertising(u8),
 }
 
-/// Whether a code is one of the 21.
+/// The parameters of Add Advertising.
+#[derive(Clone, PartialEq, Eq, Hash, Debug)]
+pub struct NewInstance {
+    /// Which instance.
+    pub instance: u8,
+    /// Its flags.
+    pub flags: u32,
+    /// Seconds of a turn, 0 for the default.
+    pub duration: u16,
+    /// Seconds on air, 0 for no limit.
+    pub timeout: u16,
+    /// Adv_Data.
+    pub data: Vec<u8>,
+    /// Scan_Rsp.
+    pub scan_response: Vec<u8>,
+}
+
+impl NewInstance {
+    /// The octets before Adv_Data.
+    const FIXED: usize = 11;
+
+    /// Whether the octets are as many as the two lengths among them say.
+    fn length_fits(octets: &[u8]) -> bool {
+        octets.len() >= Self::FIXED
+            && octets.len() == Self::FIXED + usize::from(octets[9]) + usize::from(octets[10])
+    }
+
+    /// Reads parameters whose length fits.
+    fn read(octets: &[u8]) -> NewInstance {
+        let (data, scan_response) = octets[Self::FIXED..].split_at(octets[9].into());
+        NewInstance {
+            instance: octets[0],
+            flags: u32::from_le_bytes([octets[1], octets[2], octets[3], octets[4]]),
+            duration: little_endian(octets, 5),
+            timeout: little_endian(octets, 7),
+            data: data.to_vec(),
+            scan_response: scan_response.to_vec(),
+        }
+    }
+}
+
+/// Whether a code is one of the 23.
 pub fn is_known(code: u16) -> bool {
     code::KNOWN.contains(&code)
 }
@@ -83,10 +128,11 @@ fn list_shape(code: u16) -> Option<(usize, usize)> {
     }
 }
 
-/// Parameter octets of a known command without a list.
+/// Parameter octets of a known command whose parameters always have one length.
 fn fixed_length(code: u16) -> usize {
     match code {
         code::SET_POWERED | code::SET_CONNECTABLE | code::SET_BONDABLE | code::SET_LOW_ENERGY => 1,
+        code::REMOVE_ADVERTISING => 1,
         code::SET_DISCOVERABLE => 3,
         code::SET_STATIC_ADDRESS => 6,
         code::SET_LOCAL_NAME => 260,
@@ -101,6 +147,9 @@ fn fixed_length(code: u16) -> usize {
 /// Whether the parameters of a known command have the length it takes.
 pub fn length_fits(packet: &Packet) -> bool {
     let length = packet.parameters.len();
+    if packet.code == code::ADD_ADVERTISING {
+        return NewInstance::length_fits(packet.parameters);
+    }
     match list_shape(packet.code) {
         Some((before, each)) if length >= before => {
             let count = usize::from(little_endian(packet.parameters, before - 2));
@@ -129,6 +178,8 @@ impl Command {
             code::UNBLOCK => Command::Unblock(Peer::read(octets)),
             code::ADD_DEVICE => Command::AddDevice(Device::read(octets)),
             code::REMOVE_DEVICE => Command::RemoveDevice(Peer::read(octets)),
+            code::ADD_ADVERTISING => Command::AddAdvertising(Box::new(NewInstance::read(octets))),
+            code::REMOVE_ADVERTISING => Command::RemoveAdvertising(octets[0]),
             _ => Command::read_setting(packet.code, octets),
         }
     }
@@ -173,6 +224,8 @@ impl Command {
             Command::Unblock(_) => code::UNBLOCK,
             Command::AddDevice(_) => code::ADD_DEVICE,
             Command::RemoveDevice(_) => code::REMOVE_DEVICE,
+            Command::AddAdvertising(_) => code::ADD_ADVERTISING,
+            Command::RemoveAdvertising(_) => code::REMOVE_ADVERTISING,
         }
     }
 

@@ -1,5 +1,6 @@
-//! One controller: what plug gave, its settings, names, timer and tables.
+//! One controller: what plug gave, its settings, names, timer, tables and advertising instances.
 
+use crate::advertising::Advertising;
 use crate::codes::{setting, NAME, SHORT_NAME};
 use crate::reason::ArgumentFault;
 use crate::records::{Address, Device, IdentityKey, LinkKey, LongTermKey, Peer, Service};
@@ -117,6 +118,8 @@ pub struct Controller {
     pub blocked: Table<Peer>,
     /// The action list.
     pub devices: Table<Device>,
+    /// The advertising instances and the turn.
+    pub advertising: Advertising,
 }
 
 impl Controller {
@@ -138,6 +141,7 @@ impl Controller {
             identity_keys: Table::new(),
             blocked: Table::new(),
             devices: Table::new(),
+            advertising: Advertising::default(),
         }
     }
 

@@ -1,8 +1,9 @@
 //! What a command does once nothing stands against it: the new controller, the
 //! reply and the events.
 
+use crate::advertising::Instance;
 use crate::codes::event;
-use crate::command::Command;
+use crate::command::{Command, NewInstance};
 use crate::controller::{Controller, LocalName};
 use crate::packet::{frame, success};
 use crate::records::{Device, Peer};
@@ -32,6 +33,8 @@ pub fn act(controller: &mut Controller, index: u16, command: &Command) -> Vec<u8
             controller.identity_keys = Table::of(keys);
             success(index, command.code(), &[])
         }
+        Command::AddAdvertising(new) => add_advertising(controller, index, command.code(), new),
+        Command::RemoveAdvertising(which) => remove_advertising(controller, index, command.code(), *which),
         _ => change_devices(controller, index, command),
     }
 }
@@ -41,27 +44,44 @@ pub fn new_settings(controller: &Controller, index: u16) -> Vec<u8> {
     frame(event::NEW_SETTINGS, index, &controller.settings().to_le_bytes())
 }
 
+/// Advertising Removed for each of these instances.
+pub fn advertising_removed(index: u16, gone: &[u8]) -> Vec<u8> {
+    gone.iter().flat_map(|which| frame(event::ADVERTISING_REMOVED, index, &[*which])).collect()
+}
+
 /// A settings command: the reply shows the new settings, New Settings follows
-/// if they differ from the old.
+/// if they differ from the old, then what it removed of the advertising instances.
 fn change_settings(controller: &mut Controller, index: u16, command: &Command) -> Vec<u8> {
     let before = controller.settings();
-    apply_setting(controller, command);
+    let gone = apply_setting(controller, command);
     let mut out = success(index, command.code(), &controller.settings().to_le_bytes());
     if controller.settings() != before {
         out.extend(new_settings(controller, index));
     }
+    out.extend(advertising_removed(index, &gone));
     out
 }
 
-/// The change that a settings command makes.
-fn apply_setting(controller: &mut Controller, command: &Command) {
+/// Power is turned on or off; gives the advertising instances that go.
+fn set_power(controller: &mut Controller, on: bool) -> Vec<u8> {
+    if controller.powered == on {
+        return Vec::new();
+    }
+    controller.powered = on;
+    if on {
+        controller.advertising.power_on();
+        return Vec::new();
+    }
+    if controller.timer.take().is_some() {
+        controller.discoverable = false;
+    }
+    controller.advertising.power_off()
+}
+
+/// The change that a settings command makes; gives the advertising instances that go.
+fn apply_setting(controller: &mut Controller, command: &Command) -> Vec<u8> {
     match command {
-        Command::SetPowered(value) => {
-            controller.powered = *value == 1;
-            if !controller.powered && controller.timer.take().is_some() {
-                controller.discoverable = false;
-            }
-        }
+        Command::SetPowered(value) => return set_power(controller, *value == 1),
         Command::SetDiscoverable { mode, timeout } => {
             controller.discoverable = *mode != 0;
             controller.timer = (*timeout != 0).then_some(*timeout);
@@ -74,10 +94,16 @@ fn apply_setting(controller: &mut Controller, command: &Command) {
             }
         }
         Command::SetBondable(value) => controller.bondable = *value == 1,
-        Command::SetLowEnergy(value) => controller.low_energy = *value == 1,
+        Command::SetLowEnergy(value) => {
+            controller.low_energy = *value == 1;
+            if !controller.low_energy {
+                return controller.advertising.remove(|_, _| true);
+            }
+        }
         Command::SetStaticAddress(address) => controller.static_address = *address,
         _ => {}
     }
+    Vec::new()
 }
 
 /// Set Local Name: the reply shows both names, the event follows if an octet differs.
@@ -138,6 +164,23 @@ fn change_devices(controller: &mut Controller, index: u16, command: &Command) ->
         _ => {}
     }
     out
+}
+
+/// Add Advertising: an event follows if the instance is new.
+fn add_advertising(controller: &mut Controller, index: u16, code: u16, new: &NewInstance) -> Vec<u8> {
+    let instance = Instance::new(new.duration, new.timeout, &new.data, &new.scan_response);
+    let added = controller.advertising.put(new.instance, instance, controller.powered);
+    let mut out = success(index, code, &[new.instance]);
+    if added {
+        out.extend(frame(event::ADVERTISING_ADDED, index, &[new.instance]));
+    }
+    out
+}
+
+/// Remove Advertising of one instance, or of all for 0: an event follows for each.
+fn remove_advertising(controller: &mut Controller, index: u16, code: u16, which: u8) -> Vec<u8> {
+    let gone = controller.advertising.remove(|other, _| which == 0 || other == which);
+    [success(index, code, &[which]), advertising_removed(index, &gone)].concat()
 }
 
 /// Drops the keys of all three kinds.

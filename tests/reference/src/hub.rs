@@ -3,6 +3,7 @@
 use crate::call::{Call, Reply};
 use crate::codes::{answer, status, CONTROLLERS, IMAGE_ROOM, REPLY_ROOM};
 use crate::command::Command;
+use crate::controller::Controller;
 use crate::image;
 use crate::packet::{command_status, Packet};
 use crate::reason::{ArgumentFault, Reason};
@@ -42,6 +43,13 @@ impl Hub {
     pub fn open(&self, index: u64) -> Option<&Command> {
         let index = usize::try_from(index).ok()?;
         self.open.get(index)?.as_ref()
+    }
+
+    /// The same hub with another controller at an index.
+    pub fn with_controller(&self, index: usize, controller: Controller) -> Hub {
+        let mut hub = self.clone();
+        hub.state.controllers[index] = Some(controller);
+        hub
     }
 
     /// Where a command is under way.
@@ -116,7 +124,7 @@ impl Hub {
         }
     }
 
-    /// A clock reading: timers run, ended ones turn discoverable off.
+    /// A clock reading: timers run, ended ones turn discoverable off; advertising goes round.
     pub fn clock(&mut self, reading: u32, room: usize) -> Reply {
         clock(&mut self.state, reading, room)
     }
@@ -169,6 +177,17 @@ impl Hub {
         }
         match self.state.controller(index).and_then(|controller| controller.local_name.used(which)) {
             Some(octets) => done(octets.to_vec()),
+            None => Reply::bare(answer::ARGUMENT),
+        }
+    }
+
+    /// What the instance on air sends, which a host asks for; nothing changes.
+    pub fn on_air(&self, index: u64, room: usize) -> Reply {
+        if let Some(reply) = room_fault(room, REPLY_ROOM) {
+            return reply;
+        }
+        match self.state.controller(index) {
+            Some(controller) => done(controller.advertising.on_air()),
             None => Reply::bare(answer::ARGUMENT),
         }
     }

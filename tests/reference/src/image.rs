@@ -1,5 +1,6 @@
 //! The image: what is saved of a state, and which images load.
 
+use crate::advertising::Advertising;
 use crate::codes::{setting, CONTROLLERS, NAME, SHORT_NAME, SLOTS};
 use crate::controller::{Controller, Hardware, LocalName};
 use crate::reason::ImageFault;
@@ -194,5 +195,6 @@ fn load_controller(rest: &mut Rest) -> Result<Controller, ImageFault> {
         identity_keys: load_table(rest, 3, low_energy)?,
         blocked: load_table(rest, 4, true)?,
         devices: load_table(rest, 5, true)?,
+        advertising: Advertising::default(),
     })
 }

@@ -5,6 +5,7 @@
 #![forbid(unsafe_code)]
 #![warn(missing_docs)]
 
+pub mod advertising;
 pub mod at_once;
 pub mod call;
 pub mod checks;

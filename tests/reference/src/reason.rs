@@ -5,7 +5,7 @@ use crate::codes::status;
 /// Why a command is refused.
 #[derive(Clone, Copy, PartialEq, Eq, PartialOrd, Ord, Debug, Hash)]
 pub enum Reason {
-    /// The code is none of the 21.
+    /// The code is none of the 23.
     UnknownCommand,
     /// The index is not the one wanted, or no controller is there.
     InvalidIndex,
@@ -49,6 +49,14 @@ pub enum Reason {
     Action,
     /// A BR/EDR device with another action than 1.
     ActionForType,
+    /// An advertising instance outside 1 to 5.
+    Instance,
+    /// Advertising flags that are not zero.
+    AdvertisingFlags,
+    /// Adv_Data of more than 31 octets.
+    AdvertisingLength,
+    /// Scan_Rsp of more than 31 octets.
+    ScanResponseLength,
     /// The controller lacks BR/EDR or LE.
     NotSupported,
     /// The controller is not powered.
@@ -63,6 +71,10 @@ pub enum Reason {
     OnlyLowEnergy,
     /// A static address set while powered.
     Powered,
+    /// An instance is added with LE off.
+    LowEnergyOff,
+    /// An instance with a timeout is added without power.
+    TimeoutUnpowered,
     /// The device has no key.
     NotPaired,
     /// The device is blocked already.
@@ -84,7 +96,9 @@ impl Reason {
             NotSupported => status::NOT_SUPPORTED,
             NotPowered => status::NOT_POWERED,
             Busy => status::BUSY,
-            NoAddress | NotConnectable | OnlyLowEnergy | Powered => status::REJECTED,
+            NoAddress | NotConnectable | OnlyLowEnergy | Powered | LowEnergyOff | TimeoutUnpowered => {
+                status::REJECTED
+            }
             NotPaired => status::NOT_PAIRED,
             AlreadyBlocked => status::FAILED,
             _ => status::INVALID_PARAMETERS,

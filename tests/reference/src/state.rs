@@ -4,7 +4,7 @@ use crate::checks::{all_reasons, is_started, refusal, Case};
 use crate::codes::{command as code, event, CONTROLLERS, NON_CONTROLLER};
 use crate::command::{is_global, is_known, length_fits, Command};
 use crate::controller::{Controller, Hardware};
-use crate::effects::{act, new_settings};
+use crate::effects::{act, advertising_removed, new_settings};
 use crate::packet::{command_complete, command_status, frame, success, Packet};
 use crate::reason::{ArgumentFault, Reason};
 
@@ -130,7 +130,8 @@ impl State {
         (step >= 1 << 31).then_some(ArgumentFault::ClockStep)
     }
 
-    /// Takes a new clock reading and gives New Settings for each timer that ended.
+    /// Takes a new clock reading and gives, for each index, New Settings if its timer ended, then Advertising Removed for
+    /// each instance whose timeout ran out.
     pub fn tick(&mut self, reading: u32) -> Vec<u8> {
         let step = reading.wrapping_sub(self.clock);
         self.clock = reading;
@@ -140,6 +141,7 @@ impl State {
                 if controller.count_down(step) {
                     out.extend(new_settings(controller, index as u16));
                 }
+                out.extend(advertising_removed(index as u16, &controller.advertising.pass(step)));
             }
         }
         out

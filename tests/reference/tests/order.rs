@@ -78,6 +78,8 @@ fn each_command_takes_its_length_only() {
         (0x0027, 7),
         (0x0033, 8),
         (0x0034, 7),
+        (0x003E, 11),
+        (0x003F, 1),
     ];
     let mut hub = hub_with(DUAL);
     for (code, length) in lengths {

@@ -64,7 +64,7 @@ fn busy_only_at_that_index_and_only_five_commands() {
         assert_eq!(send(&mut hub, *code, 1, parameters).answer, 0);
     }
     assert_eq!(send(&mut hub, 0x0005, 1, &[1]), bare(1));
-    let others: [(u16, Vec<u8>); 13] = [
+    let others: [(u16, Vec<u8>); 15] = [
         (0x0004, vec![]),
         (0x0009, vec![1]),
         (0x000F, vec![0; 260]),
@@ -78,6 +78,8 @@ fn busy_only_at_that_index_and_only_five_commands() {
         (0x0033, [peer(1, 1), vec![2]].concat()),
         (0x0034, peer(1, 1)),
         (0x0034, vec![0; 7]),
+        (0x003E, [vec![1], vec![0; 10]].concat()),
+        (0x003F, vec![1]),
     ];
     for (code, parameters) in others {
         assert_eq!(send(&mut hub, code, 0, &parameters).answer, 0, "{code:#06x}");

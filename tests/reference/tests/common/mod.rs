@@ -160,3 +160,54 @@ pub fn link_list(records: &[Vec<u8>]) -> Vec<u8> {
 pub fn le_list(records: &[Vec<u8>]) -> Vec<u8> {
     [vec![records.len() as u8, 0], records.concat()].concat()
 }
+
+/// The parameters of Add Advertising with flags of zero.
+pub fn instance(which: u8, duration: u16, timeout: u16, data: &[u8], scan_response: &[u8]) -> Vec<u8> {
+    let mut out = vec![which, 0, 0, 0, 0];
+    out.extend(duration.to_le_bytes());
+    out.extend(timeout.to_le_bytes());
+    out.extend([data.len() as u8, scan_response.len() as u8]);
+    [&out[..], data, scan_response].concat()
+}
+
+/// Adds an instance without data to index 0, or changes it; gives the reply with its events.
+pub fn advertise(hub: &mut Hub, which: u8, duration: u16, timeout: u16) -> Vec<u8> {
+    let reply = send(hub, 0x003E, 0, &instance(which, duration, timeout, &[], &[]));
+    assert_eq!(reply.answer, 0);
+    reply.octets
+}
+
+/// Advertising Removed of index 0, one event for each instance.
+pub fn removed(instances: &[u8]) -> Vec<u8> {
+    instances.iter().flat_map(|which| frame(0x0024, 0, &[*which])).collect()
+}
+
+/// Lets so many seconds pass; gives the events.
+pub fn wait(hub: &mut Hub, seconds: u32) -> Vec<u8> {
+    let reply = hub.clock(hub.state().clock.wrapping_add(seconds), 1024);
+    assert_eq!(reply.answer, 0);
+    reply.octets
+}
+
+/// The instance on air at index 0 and the seconds left of its turn, zeros if none is.
+pub fn turn(hub: &Hub) -> (u8, u16) {
+    let controller = hub.state().controller(0).expect("index 0 is present");
+    controller.advertising.turn.map_or((0, 0), |turn| (turn.instance, turn.left))
+}
+
+/// The timeouts left of the instances present at index 0; 0 where there is none.
+pub fn timeouts(hub: &Hub) -> Vec<(u8, u16)> {
+    let advertising = &hub.state().controller(0).expect("index 0 is present").advertising;
+    let left = |which| advertising.instance(which).and_then(|instance| instance.timeout).unwrap_or(0);
+    advertising.present().map(|which| (which, left(which))).collect()
+}
+
+/// The instances on air in each of so many seconds.
+pub fn seconds_on_air(hub: &mut Hub, seconds: u32) -> Vec<u8> {
+    let one = |_| {
+        let on_air = turn(hub).0;
+        wait(hub, 1);
+        on_air
+    };
+    (0..seconds).map(one).collect()
+}
