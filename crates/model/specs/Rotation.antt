@@ -3,27 +3,26 @@ use Prim.Native.Nat.{ℕ, zero, suc}
 use mathlib.Core.Path.{_≡_, refl}
 use mathlib.Core.Bool.{true}
 use mathlib.Core.List.{List, [], _∷_, _++_}
-use lib.ListN.{replicate}
-use Rattle.model.specs.Lengths as Lengths
+use mathlib.Core.Option.{none, some}
 use Rattle.model.specs.Statuses as Statuses
 use Rattle.model.specs.Codes as Codes
 use Rattle.model.specs.Octets.{open-octets, Octets, le16}
 use Rattle.model.specs.Advertising.{open-advertising, Schedule, instances, second}
-use Rattle.model.specs.State.{open-state, flag}
+use Rattle.model.specs.State.{open-state, Hub, controllerAt, flag, idle}
 use Rattle.model.specs.Reasons.{open-reasons}
 use Rattle.model.specs.Tables.{open-tables}
 use Rattle.model.specs.Rules.{open-rules}
 use Rattle.model.specs.Immediate.{open-immediate}
 use Rattle.model.specs.Commands.{open-commands}
-use Rattle.model.specs.Image.{open-image}
-use Rattle.model.specs.Hub.{open-hub, Call, Result, report, clock, unplug}
+use Rattle.model.specs.Image.{open-image, image, load}
+use Rattle.model.specs.Hub.{open-hub, Call, Outcome, Result, answerOf, call, clock, octetsOf, report, unplug}
 use Rattle.model.specs.WellFormed.{open-wellformed}
-use Rattle.model.specs.Layout.{open-layout, decode}
-use Rattle.model.specs.Meanings.{open-meanings, hubLoad, hubOnAir, hubSave, meaning}
+use Rattle.model.specs.Layout.{open-layout}
+use Rattle.model.specs.Meanings.{open-meanings, hubOnAir, onAirOut}
 use Rattle.model.specs.Demand3.{open-demand3, after}
 use Rattle.model.specs.Fairness.{open-fairness, longest, moments, offAir, others, secondsPassed, steady, sumOf}
-use Rattle.model.specs.Examples.{Example, allGiven, dualHardware, gives, plugDual, powerOn, to}
-use Rattle.model.specs.EasyErrors.{answered, leaves, refusedWith, send}
+use Rattle.model.specs.Examples.{Example, allGiven, answered, dualHardware, gives, hubAfter, plugDual, powerOn, to}
+use Rattle.model.specs.EasyErrors.{leaves, refusedWith, send}
 
 -- the instance on air now, and after each of n seconds
 unfoldable pub airing : ℕ → Schedule → List ℕ
@@ -74,24 +73,28 @@ bothEnding =
     ∷ add 1 2 3
     ∷ []
 
--- the answer and the octets that the driver is told at index 0
-unfoldable pub told : Octets → List ℕ
-told s = let r : Result Octets = hubOnAir s 0 1024 in r .answer ∷ r .octets
+-- the answer and the octets that the driver is told at index 0 of a lent state
+unfoldable pub toldOf : Octets → List ℕ
+toldOf s = let r : Result Octets = hubOnAir s 0 1024 in r .answer ∷ r .octets
+
+-- the same of the hub that the state means
+unfoldable pub told : Hub → List ℕ
+told h = let o : Outcome = onAirOut (h .plain) (controllerAt (h .plain) 0) in answerOf o ∷ octetsOf o
 
 -- it is told instance k with its data
 unfoldable pub airs : ℕ → List ℕ
 airs k = 0 ∷ k ∷ 2 ∷ 2 ∷ 7 ∷ 8 ∷ 9 ∷ 10 ∷ []
 
--- the state with instances, saved and loaded
-unfoldable pub loadedBack : Octets
-loadedBack = hubLoad (replicate Lengths.state 0) (hubSave (leaves rotating) Lengths.largestImage .octets) .state
+-- the hub with instances, saved and loaded, where the image was taken, and then given these calls
+unfoldable pub loadedBack : List Call → Hub
+loadedBack calls = elim (load (image (hubAfter rotating .plain))) [ none ↦ hubAfter rotating | some p ↦ after call (idle p) calls ]
 
 -- of a list of calls behind `rotating`, for instance 3: what fairness asks (1 for yes), the seconds passed, and the sum over the other instances
 unfoldable pub fair : List Call → List ℕ
 fair calls =
-    let s : Octets = leaves rotating in
-    let ms : List Schedule = moments decode meaning 0 s calls in
-    flag (steady decode meaning 0 3 s calls) 1 ∷ flag (offAir 3 ms) 1 ∷ secondsPassed decode meaning s calls ∷ sumOf (longest ms) (others 3 instances) ∷ []
+    let h : Hub = hubAfter rotating in
+    let ms : List Schedule = moments (λ h. h) call 0 h calls in
+    flag (steady (λ h. h) call 0 3 h calls) 1 ∷ flag (offAir 3 ms) 1 ∷ secondsPassed (λ h. h) call h calls ∷ sumOf (longest ms) (others 3 instances) ∷ []
 
 -- the examples
 unfoldable pub rotations : List Example
@@ -117,26 +120,26 @@ rotations =
     ∷ gives (fair (clock 1024 1 ∷ [])) (1 ∷ 1 ∷ 1 ∷ 2 ∷ [])
     ∷ gives (fair (clock 1024 2 ∷ [])) (1 ∷ 0 ∷ 2 ∷ 2 ∷ [])
     -- the driver is answered what to send
-    ∷ gives (told (leaves rotating)) (airs 1)
+    ∷ gives (toldOf (leaves rotating)) (airs 1)
     -- with power off none is on air; when it comes on, the lowest instance begins, though it was added last, and no event tells it
-    ∷ gives (told (leaves poweringOn)) (0 ∷ [])
+    ∷ gives (told (hubAfter poweringOn)) (0 ∷ [])
     ∷ gives (answered poweringOn (report 1024 0 0))
     (0 ∷ 1 ∷ 0 ∷ 0 ∷ 0 ∷ 7 ∷ 0 ∷ 5 ∷ 0 ∷ 0 ∷ 0x81 ∷ 2 ∷ 0 ∷ 0 ∷ 6 ∷ 0 ∷ 0 ∷ 0 ∷ 4 ∷ 0 ∷ 0x81 ∷ 2 ∷ 0 ∷ 0 ∷ [])
-    ∷ gives (told (leaves (poweringOn ++ (report 1024 0 0 ∷ [])))) (airs 2)
+    ∷ gives (told (hubAfter (poweringOn ++ (report 1024 0 0 ∷ [])))) (airs 2)
     -- a discoverable timer and a timeout end in one clock step: New Settings is told first, though the timeout ended first
     ∷ gives (answered bothEnding (clock 1024 10)) (0 ∷ 6 ∷ 0 ∷ 0 ∷ 0 ∷ 4 ∷ 0 ∷ 0x83 ∷ 2 ∷ 0 ∷ 0 ∷ removedEvent 1)
     -- two removals in one clock step are told ascending, though instance 3 went after 3 seconds and instance 1 after 6; then none is on air
     ∷ gives (answered (rotating ++ (add 3 2 1 ∷ [])) (clock 1024 3)) (0 ∷ removedEvent 3)
     ∷ gives (answered (rotating ++ (add 3 2 1 ∷ [])) (clock 1024 6)) (0 ∷ (removedEvent 1 ++ removedEvent 3))
-    ∷ gives (told (leaves (rotating ++ (add 3 2 1 ∷ clock 1024 6 ∷ [])))) (0 ∷ [])
+    ∷ gives (told (hubAfter (rotating ++ (add 3 2 1 ∷ clock 1024 6 ∷ [])))) (0 ∷ [])
     -- the one on air is removed: the next comes on air
     ∷ gives (answered rotating (remove 1)) (doneWith Codes.removeAdvertising 1 ++ removedEvent 1)
-    ∷ gives (told (leaves (rotating ++ (remove 1 ∷ [])))) (airs 3)
+    ∷ gives (told (hubAfter (rotating ++ (remove 1 ∷ [])))) (airs 3)
     -- an unplug writes Index Removed alone, no Advertising Removed
     ∷ gives (answered rotating (unplug 1024 0)) (0 ∷ 5 ∷ 0 ∷ 0 ∷ 0 ∷ 0 ∷ 0 ∷ [])
     -- the image has no instances: saved and loaded, none is on air, with power on again neither
-    ∷ gives (told loadedBack) (0 ∷ [])
-    ∷ gives (told (after meaning loadedBack (powerOn ∷ report 1024 0 0 ∷ []))) (0 ∷ [])
+    ∷ gives (told (loadedBack [])) (0 ∷ [])
+    ∷ gives (told (loadedBack (powerOn ∷ report 1024 0 0 ∷ []))) (0 ∷ [])
     -- Remove Advertising of all, with events in ascending order, of one, of one that is absent, and of all where there are none
     ∷ gives (answered rotating (remove 0)) (doneWith Codes.removeAdvertising 0 ++ (removedEvent 1 ++ removedEvent 3))
     ∷ gives (answered rotating (remove 3)) (doneWith Codes.removeAdvertising 3 ++ removedEvent 3)
@@ -154,5 +157,5 @@ pub rotations-hold : allGiven rotations ≡ true
 unfolding open-octets open-advertising open-state open-reasons open-tables open-rules open-immediate open-commands open-image open-hub open-wellformed
     open-layout open-meanings
     open-demand3 open-fairness to dualHardware plugDual powerOn gives allGiven send refusedWith answered leaves airing twoInstances add remove doneWith
-    addedEvent removedEvent rotating poweringOn bothEnding told airs loadedBack fair rotations
+    addedEvent removedEvent rotating poweringOn bothEnding toldOf told hubAfter airs loadedBack fair rotations
 rotations-hold = refl
