@@ -23,5 +23,6 @@ pub mod Examples
 pub mod EasyErrors
 pub mod LazyPrograms
 pub mod Rotation
+pub mod StaticAddresses
 pub mod Proof
 pub mod Theorems

@@ -19,6 +19,7 @@ use Rattle.model.specs.Tables.{TableRule, every, leAddressChecks, needsBredr, n
 use Rattle.model.specs.Tables.{blockedRule, deviceRule, identityKeyRule, linkKeyRule, longTermKeyRule, uuidRule}
 use Rattle.octets.specs.Parts.{part}
 use Rattle.octets.proofs.Parts.{length-part, getD-part}
+use Rattle.rules.proofs.Addresses.{static-of}
 use Rattle.records.specs.Slots.{freeZero, recordsAt}
 use Rattle.records.proofs.Slots.{used-slot, free-slot, no-more}
 
@@ -202,11 +203,11 @@ module _ (s : Octets) (at : ℕ) where
   unfolding linkKeyRule octet
   link-key-is = rw (passes-cons, one-check, getD-part s at 25 6 (omega arith), getD-part s at 25 7 (omega arith), twice-not, not-ltb)
 
-  -- an LE address: public, or random and then static (01, Commands, paragraph on loads)
+  -- an LE address: public, or random and then a static random one (01, Commands, paragraph on loads; 02, E2)
   pub le-address-is : (n : ℕ) → 7 ≤ n → passes (leAddressChecks (part s at n)) ≡ (eqb (getD s (at + 6) 0) 1 || eqb (getD s (at + 6) 0) 2)
-      && not (eqb (getD s (at + 6) 0) 2 && not (leb 192 (getD s (at + 5) 0)))
-  unfolding leAddressChecks staticRandom octet
-  le-address-is n h = rw (passes-cons, one-check, getD-part s at n 6 (omega arith), getD-part s at n 5 (omega arith), twice-not)
+      && not (eqb (getD s (at + 6) 0) 2 && not (staticRandom (part s at 6)))
+  unfolding leAddressChecks octet
+  le-address-is n h = rw (passes-cons, one-check, getD-part s at n 6 (omega arith), static-of s at n (omega arith), twice-not)
 
   -- that rests on the first seven octets alone, however long the record is
   pub le-address-of : (n : ℕ) → 7 ≤ n → passes (leAddressChecks (part s at n)) ≡ passes (leAddressChecks (part s at 7))

@@ -75,7 +75,7 @@ fn link_key_ok(s: &[u8], at: usize) -> bool
     s[at + 7] <= 8
 }
 
-// An address of a long term or identity key: LE Public, or LE Random and then static, its sixth octet 0xC0 or more.
+// An address of a long term or identity key: LE Public, or LE Random and then a static random one.
 fn le_address_ok(s: &[u8], at: usize) -> bool
     requires { ⌜ at + 7 ≤ length (now s) ⌝ }
     ensures { λ r. ⌜ r ≡ passes (Tables.leAddressChecks (part (now (s .entry)) at 7)) ⌝ }
@@ -84,7 +84,7 @@ fn le_address_ok(s: &[u8], at: usize) -> bool
         return true;
     }
     if s[at + 6] == 2 {
-        return 0xC0 <= s[at + 5];
+        return rules::static_random(s, at);
     }
     false
 }

@@ -1,3 +1,4 @@
 pub mod Laws
+pub mod Addresses
 pub mod Ties
 pub mod Answers

@@ -1,13 +1,14 @@
 // What the commands decide and change, by value: no function here touches the lent state or a reply.
 ghost use mathlib.Core.Path.{_≡_};
 ghost use mathlib.Core.Bool.{_&&_, _||_};
-ghost use Prim.Native.Nat.{_≤_};
+ghost use Prim.Native.Nat.{_+_, _≤_};
 ghost use lib.ListN.{length};
 ghost use Rattle.model.specs.State as State;
 ghost use Rattle.model.specs.Hub as Hub;
 ghost use Rattle.model.specs.Image.{radioOk};
 ghost use Rattle.model.specs.WellFormed as WellFormed;
 ghost use Rattle.model.specs.Rules.{setPowered, setDiscoverable, setConnectable, setLowEnergy, setStaticAddress};
+ghost use Rattle.octets.specs.Parts.{part};
 ghost use Rattle.rules.specs.Decisions.{decision, settingsOk};
 ghost use Rattle.rules.specs.Effects.{settingsEffect, settingsTimer, settingsBondable};
 use model::Hardware;
@@ -61,7 +62,20 @@ fn le_supported(f: Hardware) -> bool
     f.supported / 512 % 2 == 1
 }
 
-// Whether an address is zero or static random: then its sixth octet is 0xC0 or more.
+// Whether the six octets from the place `at` on are a static random address. As numbers of 48 bits these lie between the two addresses that have both top
+// bits and a random part of all zeros or all ones: C0:00:00:00:00:00 and FF:FF:FF:FF:FF:FF.
+pub fn static_random(s: &[u8], at: usize) -> bool
+    requires { ⌜ at + 6 ≤ length (now s) ⌝ }
+    ensures { λ r. ⌜ r ≡ State.staticRandom (part (now (s .entry)) at 6) ⌝ }
+{
+    let address = octets::u32_at(s, at) + 0x100000000 * octets::u16_at(s, at + 4);
+    if 0xC00000000000 < address {
+        return address < 0xFFFFFFFFFFFF;
+    }
+    false
+}
+
+// Whether an address is zero or static random.
 fn static_address_ok(a: &[u8]) -> bool
     requires { ⌜ 6 ≤ length (now a) ⌝ }
     ensures { λ r. ⌜ r ≡ State.staticAddressOk (now (a .entry)) ⌝ }
@@ -69,7 +83,7 @@ fn static_address_ok(a: &[u8]) -> bool
     if octets::all_zero(a) {
         return true;
     }
-    0xC0 <= a[5]
+    static_random(a, 0)
 }
 
 // Whether there is a public or a static address.

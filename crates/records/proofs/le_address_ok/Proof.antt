@@ -21,14 +21,13 @@ add-if2 c = search needs
 shared-slice-read-if2 : tie.Need-shared-slice-read-if2
 shared-slice-read-if2 c = search needs
 
-add-result : tie.Need-add-result
-add-result c = search needs
-
-shared-slice-read-result : tie.Need-shared-slice-read-result
-shared-slice-read-result c = search needs
+static-random-requires : tie.Need-static-random-requires
+static-random-requires c κs = search needs
 
 returns-2 : tie.Need-returns-2
-returns-2 c = rw (le-address-is _ _ 7 (omega arith), ne-eqb _ _ (c .before .before .before .if1 .left), eq-eqb _ _ (c .before .if2 .taken), twice-not)
+returns-2 c =
+    rw (le-address-is _ _ 7 (omega arith), ne-eqb _ _ (c .before .before .before .if1 .left), eq-eqb _ _ (c .before .if2 .taken), twice-not)
+    (c .static-random .ensures)
 
 returns-3 : tie.Need-returns-3
 returns-3 c = rw (le-address-is _ _ 7 (omega arith)) (search tests)
@@ -42,7 +41,6 @@ le-address-ok-spec =
     returns
     add-if2
     shared-slice-read-if2
-    add-result
-    shared-slice-read-result
+    static-random-requires
     returns-2
     returns-3)
