@@ -233,6 +233,15 @@ static void load_keys(void)
     send("A", "adds the UUID of Heart Rate, 0x180D, with hint 0x20", 0x0010, 0, uuid, sizeof uuid);
 }
 
+/* A static random address for controller 1, which is off. Of its 46 random bits one at least has to be 0 and one 1, so a host that draws them tests them. */
+static void set_static_address(void)
+{
+    static const uint8_t bare[6] = { 0, 0, 0, 0, 0, 0xC0 };
+    static const uint8_t drawn[6] = { 0x2F, 0x81, 0x5A, 0x03, 0xE7, 0xD4 };
+    send("B", "sets the static address C0:00:00:00:00:00 at controller 1, which no radio takes", 0x002B, 1, bare, sizeof bare);
+    send("B", "sets the static address D4:E7:03:5A:81:2F at controller 1", 0x002B, 1, drawn, sizeof drawn);
+}
+
 /* A client names controller 0. */
 static void set_name(const char *client, const char *name, const char *short_name)
 {
@@ -312,6 +321,7 @@ static int shift(const char *path)
     clock_reads(1000);
     interleave();
     load_keys();
+    set_static_address();
     set_name("A", "The plough on line 7", "Plough 7");
     advertise();
     clock_reads(1029);

@@ -13,10 +13,10 @@
  * Whatever else is passed is answered by a number, never by undefined behaviour: any octets in any buffer, buffers of any length, any index and
  * status. No buffer needs an alignment. The library keeps nothing between calls, so calls on different states may run at the same time.
  *
- * After HUB_BAD_STATE the state buffer is not what a call left: something else wrote it, nothing was ever loaded, or its length is not HUB_STATE_LEN,
- * which no call mends. The call has done nothing, and every call but hub_load will answer the same. Load the last image that was saved, or the empty
- * one. What an image does not hold is lost: power, discoverable, timers, the clock, advertising instances, commands under way. Reports for those
- * commands are answered 6, so the host tells their clients itself.
+ * After HUB_BAD_STATE the state buffer is not what a call left: something else wrote it, an older library did, nothing was ever loaded, or its length is
+ * not HUB_STATE_LEN, which no call mends. The call has done nothing, and every call but hub_load will answer the same. Load the last image that was saved,
+ * or the empty one. What an image does not hold is lost: power, discoverable, timers, the clock, advertising instances, commands under way. Reports for
+ * those commands are answered 6, so the host tells their clients itself.
  *
  * After HUB_STARTED the command waits, without a limit of time, for hub_report or hub_unplug of its index; until then Set Powered, Set Discoverable,
  * Set Connectable, Set Low Energy and Set Static Address to that index are refused Busy. A host whose radio driver gives up has to report a failure,
@@ -28,6 +28,13 @@
  * off all of them, each told by Advertising Removed behind New Settings, also in what hub_report writes. No image holds instances, so a loaded state
  * has none; an unplug drops them with no event of theirs. After hub_load the first clock reading is a step of the whole reading: give one before the
  * first instance is added.
+ *
+ * A static random address has the two top bits of its sixth octet set, and its random part, the 46 bits below them, is neither all 0 nor all 1:
+ * C0:00:00:00:00:00 and FF:FF:FF:FF:FF:FF are not static random addresses. Set Static Address takes one, or zero for none; in the lists of long term and
+ * identity resolving keys an LE Random address has to be one. Any other is refused with Invalid Parameters there. The address of a device that is blocked,
+ * added or unpaired need not be one. A host that draws a static address at random tests it first, or draws again when it is refused. An image with any
+ * other address in these places is answered HUB_BAD_IMAGE and a state HUB_BAD_STATE, as those of an older library may be. Nothing in them is mended: keep
+ * the file, and start from the empty image.
  *
  * Opcodes, event codes and status codes are those of BlueZ's mgmt.h; this header defines none of its names.
  */

@@ -27,7 +27,8 @@ fn controller(b: &[u8]) -> bool {
     let flags = b[19..24].iter().all(|&x| x < 2);
     let [powered, connectable, discoverable, _, low_energy] = [19, 20, 21, 22, 23].map(|k| b[k] == 1);
     let timer = u16::from_le_bytes([b[24], b[25]]) != 0;
-    let radio = (bredr || low_energy) && (le || (!low_energy && fixed)) && (fixed || b[31] >= 0xC0);
+    let radio =
+        (bredr || low_energy) && (le || (!low_energy && fixed)) && (fixed || static_random(&b[26..32]));
     let fit = (!discoverable || connectable)
         && (!timer || (powered && discoverable))
         && (!powered || !(public && fixed));
@@ -113,8 +114,13 @@ fn table(t: usize, region: &[u8], bredr: bool, le: bool) -> bool {
     })
 }
 
+/// An address of six octets with both top bits set and the 46 bits below them not all alike.
+fn static_random(a: &[u8]) -> bool {
+    a[5] >= 0xC0 && a != [0, 0, 0, 0, 0, 0xC0] && a != [0xFF; 6]
+}
+
 fn le_address(r: &[u8]) -> bool {
-    r[6] == 1 || (r[6] == 2 && r[5] >= 0xC0)
+    r[6] == 1 || (r[6] == 2 && static_random(&r[..6]))
 }
 
 fn record(t: usize, r: &[u8]) -> bool {

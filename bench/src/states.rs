@@ -99,7 +99,7 @@ fn random(table: usize, numbers: &mut Numbers, out: &mut [u8]) {
     }
 }
 
-/// Type 1, or type 2 with the sixth octet that it wants.
+/// Type 1, or type 2 with both top bits set; the bits below them, at random, are not all alike.
 fn le_address(numbers: &mut Numbers, out: &mut [u8]) {
     out[6] = 1 + numbers.below(2);
     if out[6] == 2 {

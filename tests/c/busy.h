@@ -12,12 +12,18 @@
 
 #include "hub.h"
 
-/* Places in the state and in a block (docs/STATE-LAYOUT.md): of instance k duration and timeout at AT + 2 k, a length with its data at AT + 32 k. */
+/*
+ * Places in the state and in a block (docs/STATE-LAYOUT.md): of slot k a long term key at AT + 36 k, an identity resolving key at AT + 23 k; of instance k
+ * duration and timeout at AT + 2 k, a length with its data at AT + 32 k.
+ */
 enum {
     FIRST_BLOCK = 4,
     BLOCK = 4371,
     AT_POWERED = 19,
     AT_LOW_ENERGY = 23,
+    AT_STATIC = 26,
+    AT_LONG_TERM = 1648,
+    AT_IDENTITY = 2804,
     AT_DURATION = 4026,
     AT_TIMEOUT = 4036,
     AT_ON_AIR = 4048,
@@ -76,7 +82,7 @@ static void must_set(uint8_t *state, unsigned code, unsigned index, size_t lengt
         must("a report", hub_report(state, HUB_STATE_LEN, index, 0, reply, sizeof reply), HUB_DONE);
 }
 
-/* The address of device k: all six octets are used; of an LE Random one the sixth is at least 0xC0. */
+/* The address of device k: all six octets are used; an LE Random one is a static random address. */
 static void put_address(uint8_t *to, unsigned k, unsigned type)
 {
     to[0] = (uint8_t)(k + 1);

@@ -26,14 +26,18 @@ static uint8_t full[HUB_STATE_LEN], state[HUB_STATE_LEN], image[HUB_IMAGE_MAX], 
 static struct input inputs[INPUTS];
 static unsigned made;
 
-/* Record k of a table of the six: valid, and unlike the others in one octet only. */
+/* Record k of a table of the six: valid, and unlike the others in one octet only. LE devices have static random addresses, whose bits are looked at. */
 static void put_record(uint8_t *to, int table, unsigned k, unsigned octet)
 {
     static const size_t sizes[6] = { 17, 25, 36, 23, 7, 8 };
     memset(to, 0x42, sizes[table]);
     to[octet % (table == 0 ? 16 : 6)] = (uint8_t)(k + 1);
-    if (table > 0)
-        to[6] = table > 1;
+    if (table == 1)
+        to[6] = 0;
+    if (table > 1) {
+        to[5] |= 0xC0;
+        to[6] = 2;
+    }
     if (table == 1 || table == 2)
         to[7] = 1;
     if (table == 2) {

@@ -3,7 +3,7 @@
 use crate::draft::{records, ControllerDraft, Draft};
 use crate::pools;
 use crate::random::Random;
-use crate::records::{repeat, spoil, KINDS};
+use crate::records::{put_outside_address, repeat, spoil, KINDS};
 use reference::codes::{setting, SLOTS};
 
 /// A rule that an image is made to break.
@@ -29,8 +29,10 @@ pub enum Damage {
     LowEnergyOn,
     /// LE off without BR/EDR.
     LowEnergyOff,
-    /// A static address that is none.
+    /// A static address with a low sixth octet.
     StaticAddress,
+    /// A static address just outside the rule of static random ones.
+    StaticOutside,
     /// A static address without LE support.
     StaticUnsupported,
     /// The end of the name.
@@ -43,6 +45,8 @@ pub enum Damage {
     TooManyRecords(usize),
     /// A record of a table.
     Record(usize),
+    /// A key with an LE Random address just outside the rule of static random ones.
+    KeyOutside(usize),
     /// Two records of a table.
     Repeat(usize),
     /// Keys without support.
@@ -57,12 +61,13 @@ pub enum Damage {
 pub fn all() -> Vec<Damage> {
     use Damage::*;
     let mut kinds = vec![Length, Version, ControllerCount, Index, PublicAddress, HighSettings, NoTransport];
-    kinds.extend([Flags, LowEnergyOn, LowEnergyOff, StaticAddress, StaticUnsupported]);
+    kinds.extend([Flags, LowEnergyOn, LowEnergyOff, StaticAddress, StaticOutside, StaticUnsupported]);
     kinds.extend([NameEnd, ShortNameEnd, Tail, Cut]);
     for place in 0..KINDS.len() {
         kinds.extend([TableCount(place), TooManyRecords(place), Record(place), Repeat(place)]);
     }
     kinds.extend([1, 2, 3].map(KeysUnsupported));
+    kinds.extend([2, 3].map(KeyOutside));
     kinds
 }
 
@@ -125,6 +130,7 @@ fn damage_controller(random: &mut Random, draft: &mut Draft, kind: Damage) -> bo
         Damage::TableCount(place)
         | Damage::TooManyRecords(place)
         | Damage::Record(place)
+        | Damage::KeyOutside(place)
         | Damage::Repeat(place)
         | Damage::KeysUnsupported(place) => damage_table(random, controller, kind, place),
         _ => damage_field(random, controller, kind),
@@ -138,9 +144,9 @@ fn fits(controller: &ControllerDraft, kind: Damage) -> bool {
         Damage::PublicAddress => controller.has_br_edr(),
         Damage::LowEnergyOn | Damage::StaticUnsupported => !controller.has_low_energy(),
         Damage::LowEnergyOff => !controller.has_br_edr(),
-        Damage::StaticAddress => controller.has_low_energy(),
+        Damage::StaticAddress | Damage::StaticOutside => controller.has_low_energy(),
         Damage::TooManyRecords(place) => controller.takes(KINDS[place]),
-        Damage::Record(place) => !controller.tables[place].records.is_empty(),
+        Damage::Record(place) | Damage::KeyOutside(place) => !controller.tables[place].records.is_empty(),
         Damage::Repeat(place) => controller.tables[place].records.len() >= 2,
         Damage::KeysUnsupported(place) => !controller.takes(KINDS[place]),
         _ => true,
@@ -164,6 +170,7 @@ fn damage_field(random: &mut Random, controller: &mut ControllerDraft, kind: Dam
         Damage::StaticAddress => {
             controller.static_address = pools::low_address(random.below(pools::LOW));
         }
+        Damage::StaticOutside => controller.static_address = pools::some_outside(random),
         Damage::StaticUnsupported => controller.static_address = pools::static_address(random),
         Damage::NameEnd => controller.names[248] = random.octet() | 1,
         _ => controller.names[259] = random.octet() | 1,
@@ -183,6 +190,10 @@ fn damage_table(random: &mut Random, controller: &mut ControllerDraft, kind: Dam
         Damage::Record(_) => {
             let chosen = random.below(count);
             spoil(random, KINDS[place], &mut table.records[chosen]);
+        }
+        Damage::KeyOutside(_) => {
+            let chosen = random.below(count);
+            put_outside_address(random, &mut table.records[chosen]);
         }
         Damage::Repeat(_) => {
             repeat(random, KINDS[place], &mut table.records);

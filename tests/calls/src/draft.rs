@@ -55,18 +55,16 @@ pub struct TableDraft {
     pub records: Vec<Vec<u8>>,
 }
 
-/// Takes octets from the front.
-fn take<'a>(rest: &mut &'a [u8], count: usize) -> &'a [u8] {
-    let (taken, left) = rest.split_at(count);
+/// Takes octets from the front, if there are as many.
+fn take<'a>(rest: &mut &'a [u8], count: usize) -> Option<&'a [u8]> {
+    let (taken, left) = rest.split_at_checked(count)?;
     *rest = left;
-    taken
+    Some(taken)
 }
 
-/// Takes a fixed number of octets from the front.
-fn array<const N: usize>(rest: &mut &[u8]) -> [u8; N] {
-    let mut out = [0; N];
-    out.copy_from_slice(take(rest, N));
-    out
+/// Takes a fixed number of octets from the front, if there are as many.
+fn array<const N: usize>(rest: &mut &[u8]) -> Option<[u8; N]> {
+    take(rest, N)?.try_into().ok()
 }
 
 impl Draft {
@@ -88,10 +86,15 @@ impl Draft {
 
     /// Reads a valid image.
     pub fn read(image: &[u8]) -> Draft {
-        let mut rest = &image[5..];
-        let count = array::<1>(&mut rest)[0];
-        let controllers = (0..count).map(|_| ControllerDraft::read(&mut rest)).collect();
-        Draft { length: None, version: image[4], count: None, controllers, tail: vec![], cut: 0 }
+        Draft::of(image).expect("a valid image is whole")
+    }
+
+    /// Reads an image by its counts, if all that they count is there; no other rule is looked at, and no octet behind it.
+    pub fn of(image: &[u8]) -> Option<Draft> {
+        let mut rest = image.get(4..)?;
+        let [version, count] = array(&mut rest)?;
+        let controllers = (0..count).map(|_| ControllerDraft::of(&mut rest)).collect::<Option<_>>()?;
+        Some(Draft { length: None, version, count: None, controllers, tail: vec![], cut: 0 })
     }
 
     /// The octets of the image.
@@ -158,25 +161,25 @@ impl ControllerDraft {
         controller
     }
 
-    /// Reads a controller of a valid image.
-    fn read(rest: &mut &[u8]) -> ControllerDraft {
+    /// Reads a controller by its counts, if it is whole.
+    fn of(rest: &mut &[u8]) -> Option<ControllerDraft> {
         let mut controller = ControllerDraft {
-            index: array::<1>(rest)[0],
-            public_address: array(rest),
-            version: array::<1>(rest)[0],
-            manufacturer: u16::from_be_bytes(array(rest)),
-            supported: u32::from_be_bytes(array(rest)),
-            flags: u32::from_be_bytes(array(rest)),
-            static_address: array(rest),
-            names: take(rest, 260).to_vec(),
+            index: array::<1>(rest)?[0],
+            public_address: array(rest)?,
+            version: array::<1>(rest)?[0],
+            manufacturer: u16::from_be_bytes(array(rest)?),
+            supported: u32::from_be_bytes(array(rest)?),
+            flags: u32::from_be_bytes(array(rest)?),
+            static_address: array(rest)?,
+            names: take(rest, 260)?.to_vec(),
             tables: Default::default(),
         };
         for (place, kind) in KINDS.iter().enumerate() {
-            let count = array::<1>(rest)[0];
-            let records = (0..count).map(|_| take(rest, kind.length()).to_vec());
-            controller.tables[place].records = records.collect();
+            let count = array::<1>(rest)?[0];
+            let records = (0..count).map(|_| take(rest, kind.length()).map(<[u8]>::to_vec));
+            controller.tables[place].records = records.collect::<Option<_>>()?;
         }
-        controller
+        Some(controller)
     }
 
     /// Adds the octets of the controller.
@@ -222,11 +225,12 @@ pub fn records(random: &mut Random, kind: Kind, count: usize) -> Vec<Vec<u8>> {
 
 /// Different devices of the three types, with actions for the action list.
 fn devices(random: &mut Random, kind: Kind, count: usize) -> Vec<Vec<u8>> {
-    let numbers = random.sample(3 * (13 + pools::LOW), count);
+    let numbers = random.sample(3 * (13 + pools::LOW + pools::OUTSIDE), count);
     let record = |number: &usize| {
         let (place, address_type) = (number / 3, (number % 3) as u8);
         let address = match place.checked_sub(13) {
-            Some(low) => pools::low_address(low),
+            Some(low) if low < pools::LOW => pools::low_address(low),
+            Some(behind) => pools::outside_address(behind - pools::LOW),
             None => pools::high_address(place),
         };
         let mut record = [&address[..], &[address_type]].concat();

@@ -1,13 +1,17 @@
 //! What the calls of a run came to: which commands, answers, statuses, reasons
 //! and events, and how often.
 
-use crate::lists::Lists;
+use crate::addresses;
+use crate::lists::{Lists, IMAGES};
 use crate::situations::situations;
 use reference::codes::{answer, event, IMAGE_ROOM, REPLY_ROOM};
 use reference::packet::{little_endian, Packet, HEADER};
 use reference::{Call, Hub, Reply};
 use std::collections::BTreeMap;
 use std::fmt::{Debug, Display, Formatter, Result};
+
+/// The reason that a reply buffer is too short.
+const NO_ROOM: &str = "Room";
 
 /// Counts by call, answer and status, and by call and reason.
 #[derive(Clone, Debug, Default)]
@@ -24,6 +28,8 @@ pub struct Histogram {
     pub situations: BTreeMap<&'static str, usize>,
     /// All calls.
     pub calls: usize,
+    /// Images loaded after the lists.
+    pub images: usize,
 }
 
 /// What is known of a call before it is made.
@@ -32,7 +38,7 @@ pub struct Note {
     what: String,
     /// Why it will be refused, the reason that answers first.
     reasons: Vec<String>,
-    /// What is special about it if it is not.
+    /// What is special about it.
     situations: Vec<&'static str>,
 }
 
@@ -61,7 +67,7 @@ pub fn what(call: &Call) -> String {
 fn reasons(hub: &Hub, call: &Call) -> Vec<String> {
     let least = if matches!(call, Call::Save { .. }) { IMAGE_ROOM } else { REPLY_ROOM };
     if call.room() < least {
-        return vec!["Room".into()];
+        return vec![NO_ROOM.into()];
     }
     let state = hub.state();
     match call {
@@ -99,13 +105,14 @@ impl Note {
     /// Looks at a call before the hub gets it.
     pub fn new(hub: &Hub, call: &Call) -> Note {
         let reasons = reasons(hub, call);
-        let situations = if reasons.is_empty() { situations(hub, call) } else { Vec::new() };
+        let has_room = reasons.first().is_none_or(|first| first != NO_ROOM);
+        let situations = if has_room { situations(hub, call) } else { Vec::new() };
         Note { what: what(call), reasons, situations }
     }
 }
 
 impl Histogram {
-    /// Runs so many random calls and counts them.
+    /// Runs so many random calls, with images after each list, and counts them.
     pub fn of_run(count: usize, seed: u64) -> Histogram {
         let mut lists = Lists::new(seed);
         let mut histogram = Histogram::default();
@@ -116,8 +123,22 @@ impl Histogram {
                 let reply = hub.call(&call);
                 histogram.add(note, &call, &reply);
             }
+            for _ in 0..IMAGES {
+                histogram.add_image(&lists.image());
+            }
         }
         histogram
+    }
+
+    /// Counts what is special about an image.
+    fn add_image(&mut self, image: &[u8]) {
+        self.images += 1;
+        let mut see = |name: &'static str, holds: bool| {
+            if holds {
+                *self.situations.entry(name).or_default() += 1;
+            }
+        };
+        addresses::at_image(image, &mut see);
     }
 
     /// Counts a call with its reply.
@@ -146,7 +167,7 @@ impl Histogram {
 
 impl Display for Histogram {
     fn fmt(&self, out: &mut Formatter<'_>) -> Result {
-        writeln!(out, "{} calls", self.calls)?;
+        writeln!(out, "{} calls, {} images", self.calls, self.images)?;
         writeln!(out, "\ncall, answer, status:")?;
         for ((what, answer, status), count) in &self.statuses {
             let status = status.map(|status| format!("{status:#04x}")).unwrap_or("-".into());

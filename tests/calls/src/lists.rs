@@ -10,6 +10,8 @@ use reference::codes::{command as code, CONTROLLERS, IMAGE_ROOM, REPLY_ROOM};
 use reference::packet::frame;
 use reference::{Call, Hub};
 
+/// How many images a run loads after each list.
+pub const IMAGES: usize = 8;
 /// The image of the fresh hub.
 pub const EMPTY: [u8; 6] = [0, 0, 0, 6, 1, 0];
 

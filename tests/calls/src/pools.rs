@@ -3,8 +3,12 @@
 use crate::random::Random;
 use reference::records::{Address, Peer};
 
-/// Addresses that may be static random ones.
+/// Static random addresses far from the edge of the rule: of their lower 46 bits many are 0 and many are 1.
 pub const HIGH: usize = 40;
+/// Static random addresses just inside the rule.
+pub const INSIDE: usize = 92;
+/// Addresses just outside the rule of static random ones.
+pub const OUTSIDE: usize = 6;
 /// Addresses with a lower sixth octet.
 pub const LOW: usize = 8;
 /// UUIDs of the pool.
@@ -14,6 +18,36 @@ pub const LE_ONLY: [u32; 4] = [0x0200, 0x8200, 0xFF7F, 0x0E13];
 /// Supported settings that plug takes with a public address.
 pub const BR_EDR: [u32; 7] = [0x0280, 0x0280, 0x0080, 0x00FF, 0xFFFF, 0xFDFF, 0x0290];
 
+/// The two addresses with both top bits set and the 46 bits below them alike; they are no static random ones.
+pub const ALIKE: [Address; 2] = [[0, 0, 0, 0, 0, 0xC0], [0xFF; 6]];
+
+/// An address with one of its 48 bits changed.
+fn neighbour(mut address: Address, bit: usize) -> Address {
+    address[bit / 8] ^= 1 << (bit % 8);
+    address
+}
+
+/// An address just inside the rule: one of the two with one of its 46 lower bits changed, which are counted by the half of
+/// the number.
+pub fn inside_address(number: usize) -> Address {
+    neighbour(ALIKE[number % 2], number / 2)
+}
+
+/// An address just outside the rule: one of the two as it is, then with either top bit changed.
+pub fn outside_address(number: usize) -> Address {
+    let alike = ALIKE[number % 2];
+    match number / 2 {
+        0 => alike,
+        top => neighbour(alike, 45 + top),
+    }
+}
+
+/// An address just outside the rule, every other time one of the two.
+pub fn some_outside(random: &mut Random) -> Address {
+    let most = if random.percent(50) { ALIKE.len() } else { OUTSIDE };
+    outside_address(random.below(most))
+}
+
 /// An address of the first kind; each differs from most others in two octets only.
 pub fn high_address(number: usize) -> Address {
     let mut address = [0x11, 0x22, 0x33, 0x44, 0x55, 0xC6];
@@ -22,7 +56,7 @@ pub fn high_address(number: usize) -> Address {
     address
 }
 
-/// An address of the second kind: some with one octet alone, some with a sixth
+/// An address with a low sixth octet: some with one octet alone, some with a sixth
 /// octet just too low.
 pub fn low_address(number: usize) -> Address {
     let mut address = [0; 6];
@@ -30,16 +64,17 @@ pub fn low_address(number: usize) -> Address {
         0..=4 => address[number] = 1,
         5 => address[5] = 0x3F,
         6 => address = [0x11, 0x22, 0x33, 0x44, 0x55, 0xBF],
-        _ => address = [0xFF, 0xFF, 0xFF, 0xFF, 0xFF, 0x7F],
+        _ => address = [0x11, 0x22, 0x33, 0x44, 0x55, 0x7F],
     }
     address
 }
 
-/// An address that is not zero; the first few come most often.
+/// An address of a device, not zero; the first few come most often.
 pub fn address(random: &mut Random) -> Address {
-    match random.below(10) {
-        0 => low_address(random.below(LOW)),
-        1 | 2 => high_address(random.below(HIGH)),
+    match random.below(20) {
+        0 | 1 => low_address(random.below(LOW)),
+        2 => some_outside(random),
+        3..=5 => high_address(random.below(HIGH)),
         _ => high_address(random.below(13)),
     }
 }
@@ -49,20 +84,20 @@ pub fn peer(random: &mut Random) -> Peer {
     Peer { address: address(random), address_type: random.below(3) as u8 }
 }
 
-/// A static random address.
+/// A static random address, now and then one just inside the rule.
 pub fn static_address(random: &mut Random) -> Address {
     match random.below(8) {
-        0 => [0, 0, 0, 0, 0, 0xC0],
-        1 => [0xFF; 6],
+        0..=2 => inside_address(random.below(INSIDE)),
         _ => high_address(random.below(HIGH)),
     }
 }
 
 /// A public address, zero now and then.
 pub fn public_address(random: &mut Random) -> Address {
-    match random.below(6) {
-        0 => [0; 6],
-        1 => low_address(random.below(LOW)),
+    match random.below(12) {
+        0 | 1 => [0; 6],
+        2 => low_address(random.below(LOW)),
+        3 => some_outside(random),
         _ => high_address(random.below(HIGH)),
     }
 }

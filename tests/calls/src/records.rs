@@ -1,6 +1,8 @@
 //! Key records in packet order: valid lists of any length, and ways to spoil a record.
 
-use crate::pools::{high_address, low_address, HIGH, LOW};
+use crate::pools::{
+    high_address, inside_address, low_address, outside_address, some_outside, HIGH, LOW, OUTSIDE,
+};
 use crate::random::Random;
 
 /// The kinds of table entry, in the order of the image.
@@ -47,15 +49,21 @@ impl Kind {
     }
 }
 
-/// A different address and type for each number below 40 for each type. All but
-/// LE Random have some with a low sixth octet, and the zero address.
+/// The bits in which LE Random keys have neighbours of the addresses just outside the rule.
+const KEY_BITS: [usize; (OUTSIDE + LOW) / 2] = [0, 7, 20, 39, 40, 44, 45];
+
+/// A different address and type for each number below 40 for each type. LE Random
+/// has some just inside the rule of static random addresses; the other types have
+/// some just outside it, some with a low sixth octet, and the zero address.
 fn key_peer(number: usize, types: &[u8]) -> Vec<u8> {
     let address_type = types[number % types.len()];
     let place = number / types.len() % HIGH;
-    let address = match place.checked_sub(HIGH - LOW) {
-        Some(low) if address_type != 2 && low == LOW - 1 => [0; 6],
-        Some(low) if address_type != 2 => low_address(low),
-        _ => high_address(place),
+    let address = match place.checked_sub(HIGH - LOW - OUTSIDE) {
+        None => high_address(place),
+        Some(edge) if address_type == 2 => inside_address(2 * KEY_BITS[edge / 2] + edge % 2),
+        Some(edge) if edge < OUTSIDE => outside_address(edge),
+        Some(edge) if edge < OUTSIDE + LOW - 1 => low_address(edge - OUTSIDE),
+        _ => [0; 6],
     };
     [&address[..], &[address_type]].concat()
 }
@@ -111,6 +119,9 @@ pub fn spoil(random: &mut Random, kind: Kind, record: &mut [u8]) {
         (Kind::LongTermKey, 2) => record[8] = random.pick(&[2, 3, 0xFF]),
         (Kind::LongTermKey, 3) => record[9] = random.pick(&[0, 6, 17, 0xFF]),
         (Kind::IdentityKey, 0..=1) => record[6] = random.pick(&[0, 3, 0xFF]),
+        (Kind::LongTermKey | Kind::IdentityKey, _) if random.percent(50) => {
+            put_outside_address(random, record)
+        }
         (Kind::LongTermKey | Kind::IdentityKey, _) => {
             record[6] = 2;
             record[5] = random.pick(&[0, 0x3F, 0x7F, 0xBF]);
@@ -123,6 +134,12 @@ pub fn spoil(random: &mut Random, kind: Kind, record: &mut [u8]) {
             record[7] = random.pick(&[0, 2]);
         }
     }
+}
+
+/// Gives a key an LE Random address just outside the rule of static random ones.
+pub fn put_outside_address(random: &mut Random, record: &mut [u8]) {
+    record[..6].copy_from_slice(&some_outside(random));
+    record[6] = 2;
 }
 
 /// Lets a later record name the same thing as an earlier one; false if there

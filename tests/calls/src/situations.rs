@@ -1,5 +1,6 @@
-//! Situations that a run should reach although no refusal shows them.
+//! Situations that a run should reach although no refusal by itself shows them.
 
+use crate::addresses;
 use crate::on_air;
 use reference::codes::{command as code, status, CONTROLLERS, SLOTS};
 use reference::command::Command;
@@ -9,7 +10,7 @@ use reference::records::{Peer, Record};
 use reference::table::Table;
 use reference::{Call, Hub};
 
-/// What is special about a call that the hub accepts.
+/// What is special about a call that has room for its reply.
 pub fn situations(hub: &Hub, call: &Call) -> Vec<&'static str> {
     let mut found = Vec::new();
     let mut see = |name: &'static str, holds: bool| {
@@ -18,7 +19,10 @@ pub fn situations(hub: &Hub, call: &Call) -> Vec<&'static str> {
         }
     };
     match call {
-        Call::Command { packet, .. } if hub.reasons(packet).is_empty() => at_command(hub, packet, &mut see),
+        Call::Command { packet, .. } => match hub.reasons(packet).first() {
+            None => at_command(hub, packet, &mut see),
+            Some(reason) => addresses::at_refusal(packet, *reason, &mut see),
+        },
         Call::Report { index, status: 0, .. } => at_report(hub, *index, &mut see),
         Call::Report { index, status, .. } if *status <= status::LAST.into() => {
             see("failed report beside another open command", hub.open(*index).is_some() && open(hub) > 1)
@@ -116,7 +120,9 @@ fn at_command(hub: &Hub, packet: &[u8], see: &mut See) {
     let busy = hub.open(packet.index.into()).is_some();
     see("command beside an open one at its index", busy);
     see("started beside another open command", packet.code == code::SET_POWERED && open(hub) > 0);
-    match Command::read(&packet) {
+    let command = Command::read(&packet);
+    addresses::at_command(&command, see);
+    match command {
         Command::AddUuid(service) => {
             added(&controller.services, &service, see);
             let others = hints_beside(controller, &service.uuid);
@@ -199,7 +205,7 @@ fn unpaired(controller: &Controller, peer: &Peer, see: &mut See) {
     see("zero address unpaired", peer.is_zero());
 }
 
-/// All names that a run should come to, those of advertising aside.
+/// All names that a run should come to, those of advertising and of addresses aside.
 pub const EXPECTED: [&str; 41] = [
     "failed report beside another open command",
     "unplug during a command",

@@ -16,7 +16,8 @@ pub fn spoil_parameters(random: &mut Random, code: u16, parameters: &mut Vec<u8>
         code::SET_DISCOVERABLE => discoverable(random, parameters),
         code::SET_STATIC_ADDRESS => {
             let low = pools::low_address(random.below(pools::LOW));
-            parameters.splice(.., low);
+            let outside = pools::some_outside(random);
+            parameters.splice(.., random.pick(&[low, outside]));
         }
         code::SET_LOCAL_NAME => set(parameters, random.pick(&[248, 259]), random.octet() | 1),
         code::ADD_UUID => fill(parameters, 16),

@@ -2,7 +2,7 @@
 
 use calls::coverage::{expected_orders, expected_refusals};
 use calls::histogram::Histogram;
-use calls::{on_air, situations};
+use calls::{addresses, on_air, situations};
 
 #[test]
 fn every_refusal_and_situation_is_reached() {
@@ -14,7 +14,9 @@ fn every_refusal_and_situation_is_reached() {
         for order in expected_orders() {
             assert!(run.behind.contains_key(&order), "seed {seed}: {order:?} is missing");
         }
-        for situation in situations::EXPECTED.iter().chain(&on_air::EXPECTED) {
+        let situations =
+            situations::EXPECTED.into_iter().chain(on_air::EXPECTED).chain(addresses::expected());
+        for situation in situations {
             assert!(run.situations.contains_key(situation), "seed {seed}: {situation} is missing");
         }
     }

@@ -129,8 +129,12 @@ pub fn altered_states_agree<T: Target>(
         counts.lent += 1;
         counts.well_formed += usize::from(meant.is_some());
         let result = match meant {
-            Some(controller) => taken(lent, &mut hub.with_controller(index, controller), index, random),
-            None => refused(lent, hub, index, random),
+            Some(controller) => {
+                let mut meant = hub.with_controller(index, controller);
+                let call = clock(random, &meant);
+                taken(lent, &mut meant, index, &call)
+            }
+            None => refused(lent, index, &clock(random, hub)),
         };
         result.map_err(|difference| format!("{what}: {difference}"))?;
     }
@@ -138,28 +142,25 @@ pub fn altered_states_agree<T: Target>(
     Ok(())
 }
 
-/// A well-formed state: what is on air, and a clock step.
-fn taken<T: Target>(
+/// A well-formed state: the questions and a call agree.
+pub fn taken<T: Target>(
     lent: &mut Lent<T>,
     hub: &mut Hub,
     index: usize,
-    random: &mut Random,
+    call: &Call,
 ) -> Result<(), Difference> {
-    let found = lent.on_air(index as u64, REPLY_ROOM, T::STATE_LEN)?;
-    same("on air", &hub.on_air(index as u64, REPLY_ROOM), &found)?;
-    let call = clock(random, hub);
-    step(lent, hub, &call).map(|_| ()).map_err(|difference| format!("{call:?}: {difference}"))
+    let index = index as u64;
+    let found = lent.on_air(index, REPLY_ROOM, T::STATE_LEN)?;
+    same("on air", &hub.on_air(index, REPLY_ROOM), &found)?;
+    let found = lent.name(index, 0, REPLY_ROOM, T::STATE_LEN)?;
+    same("name", &hub.name(index, 0, REPLY_ROOM), &found)?;
+    step(lent, hub, call).map(|_| ()).map_err(|difference| format!("{call:?}: {difference}"))
 }
 
 /// A state that is none: 5 from the questions and from a call.
-fn refused<T: Target>(
-    lent: &mut Lent<T>,
-    hub: &Hub,
-    index: usize,
-    random: &mut Random,
-) -> Result<(), Difference> {
+pub fn refused<T: Target>(lent: &mut Lent<T>, index: usize, call: &Call) -> Result<(), Difference> {
     let expected = Reply::bare(answer::STATE);
     same("on air", &expected, &lent.on_air(index as u64, REPLY_ROOM, T::STATE_LEN)?)?;
     same("name", &expected, &lent.name(index as u64, 0, REPLY_ROOM, T::STATE_LEN)?)?;
-    same("clock", &expected, &lent.call(&clock(random, hub))?)
+    same("the call", &expected, &lent.call(call)?)
 }

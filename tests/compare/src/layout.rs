@@ -21,6 +21,12 @@ const BLOCK: usize = 4_371;
 const OPEN: usize = 1;
 /// The octets of an open command.
 const OPEN_OCTETS: usize = 5;
+/// Where the static address stands in a block.
+pub const STATIC_ADDRESS: Range<usize> = 26..32;
+/// Where the table of long term keys stands in a block.
+pub const LONG_TERM_KEYS: Range<usize> = 1_644..2_800;
+/// Where the table of identity resolving keys stands in a block.
+pub const IDENTITY_KEYS: Range<usize> = 2_800..3_540;
 /// Where the advertising instances stand in a block, which they end.
 pub const ADVERTISING: usize = 4_028;
 
@@ -116,28 +122,34 @@ fn fill(block: &mut [u8], controller: &Controller) {
     block[22] = controller.bondable.into();
     block[23] = controller.low_energy.into();
     put(block, 24, &controller.timer.unwrap_or(0).to_le_bytes());
-    put(block, 26, &controller.static_address);
+    put(block, STATIC_ADDRESS.start, &controller.static_address);
     put(block, 32, &controller.local_name.name);
     put(block, 281, &controller.local_name.short_name);
     table(&mut block[292..840], &controller.services);
     table(&mut block[840..1644], &controller.link_keys);
-    table(&mut block[1644..2800], &controller.long_term_keys);
-    table(&mut block[2800..3540], &controller.identity_keys);
+    table(&mut block[LONG_TERM_KEYS], &controller.long_term_keys);
+    table(&mut block[IDENTITY_KEYS], &controller.identity_keys);
     table(&mut block[3540..3768], &controller.blocked);
     table(&mut block[3768..4028], &controller.devices);
     schedule::write(&mut block[ADVERTISING..], &controller.advertising);
 }
 
-/// A table: the word of its slots in use, then the slots.
-fn table<R: Record>(out: &mut [u8], table: &Table<R>) {
+/// Where a slot stands in a table, behind the word.
+pub fn slot<R: Record>(place: usize) -> Range<usize> {
+    let at = 4 + R::LEN * place;
+    at..at + R::LEN
+}
+
+/// A table: the word of its slots in use, then the slots; its octets are zero before.
+pub fn table<R: Record>(out: &mut [u8], table: &Table<R>) {
     let mut word = 0_u32;
     let mut record = Vec::with_capacity(R::LEN);
-    for (place, slot) in table.slots().iter().enumerate() {
-        if let Some(entry) = slot {
+    for (place, entry) in table.slots().iter().enumerate() {
+        if let Some(entry) = entry {
             word |= 1 << place;
             record.clear();
             entry.write(&mut record);
-            put(out, 4 + R::LEN * place, &record);
+            out[slot::<R>(place)].copy_from_slice(&record);
         }
     }
     put(out, 0, &word.to_le_bytes());

@@ -4,7 +4,9 @@
 #![forbid(unsafe_code)]
 #![warn(missing_docs)]
 
+pub mod addresses;
 pub mod altered;
+pub mod identities;
 pub mod layout;
 pub mod lent;
 pub mod mirror;
@@ -18,6 +20,8 @@ pub mod switches;
 pub mod target;
 #[cfg(test)]
 mod tests;
+#[cfg(test)]
+mod wrong_rule;
 
 pub use lent::Lent;
 pub use run::Comparison;

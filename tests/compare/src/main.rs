@@ -2,6 +2,7 @@
 
 mod library;
 
+use compare::addresses::addresses_agree;
 use compare::run::{Comparison, Failure};
 use compare::shrink::shrink;
 use library::Library;
@@ -35,6 +36,13 @@ fn main() -> ExitCode {
     println!("seed {seed}");
     let start = Instant::now();
     let mut comparison = Comparison::new(seed, Library, Library);
+    match addresses_agree(comparison.lent()) {
+        Ok(sweep) => println!("{sweep}"),
+        Err(difference) => {
+            println!("the hubs differ on an address: {difference}");
+            return ExitCode::FAILURE;
+        }
+    }
     let result = comparison.run(count);
     println!(
         "{} calls in {} lists, {} calls of reduced lists, {} commands under way at an end, {} images, {} altered states ({} well formed), {:.1} s",

@@ -1,10 +1,11 @@
 //! The reference hub behind a state buffer, to try the comparison itself.
 //!
 //! The buffer holds the octets of the state; they are not read back, but looked
-//! for among those of the last states, which are kept aside. The advertising parts,
-//! power and LE alone may be others, and are read.
+//! for among those of the last states, which are kept aside. The static addresses,
+//! the LE keys, power, LE and the advertising parts alone may be others, and are read.
 
-use crate::layout::{block, encode, ADVERTISING, STATE};
+use crate::identities;
+use crate::layout::{block, encode, ADVERTISING, IDENTITY_KEYS, LONG_TERM_KEYS, STATE, STATIC_ADDRESS};
 use crate::switches::{self, LOW_ENERGY, POWERED};
 use crate::target::Target;
 use reference::codes::answer;
@@ -34,15 +35,16 @@ impl Mirror {
         same.map(|(_, hub)| hub.clone()).or_else(|| self.read_altered(state))
     }
 
-    /// The hub that a buffer stands for which differs from a kept state in advertising parts, power and LE alone.
+    /// The hub that a buffer stands for which differs from a kept state in the parts alone that are read.
     fn read_altered(&self, state: &[u8]) -> Option<Hub> {
         let like = |hub: &Hub| {
             let mut octets = encode(hub);
             for index in hub.state().present() {
                 let (kept, found) = (&mut octets[block(index)], state.get(block(index))?);
-                kept[ADVERTISING..].copy_from_slice(&found[ADVERTISING..]);
-                for at in [POWERED, LOW_ENERGY] {
-                    kept[at] = found[at];
+                let flags = [POWERED, LOW_ENERGY].map(|at| at..at + 1);
+                let parts = [STATIC_ADDRESS, LONG_TERM_KEYS, IDENTITY_KEYS, ADVERTISING..found.len()];
+                for part in flags.into_iter().chain(parts) {
+                    kept[part.clone()].copy_from_slice(&found[part]);
                 }
             }
             (octets == state).then_some(())
@@ -52,7 +54,9 @@ impl Mirror {
         for index in kept.state().present() {
             let (controller, open) =
                 (kept.state().controller(index as u64)?, kept.open(index as u64).is_some());
-            hub = hub.with_controller(index, switches::read(&state[block(index)], controller, open)?);
+            let octets = &state[block(index)];
+            let with_keys = identities::read(octets, controller, open)?;
+            hub = hub.with_controller(index, switches::read(octets, &with_keys, open)?);
         }
         Some(hub)
     }

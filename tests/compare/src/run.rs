@@ -5,7 +5,7 @@ use crate::layout::{cleared, encode, encode_at_once, same_state};
 use crate::lent::{Difference, Lent};
 use crate::questions::questions_agree;
 use crate::target::Target;
-use calls::lists::Lists;
+use calls::lists::{Lists, IMAGES};
 use calls::Random;
 use reference::codes::{answer, CONTROLLERS, IMAGE_ROOM, REPLY_ROOM};
 use reference::packet::Packet;
@@ -13,8 +13,6 @@ use reference::{reduce, AtOnceHub, Call, Hub, Reply, Traced};
 
 /// How many calls lie between two comparisons of saved images.
 const SAVES: usize = 50;
-/// How many images are loaded after each list.
-const IMAGES: usize = 8;
 /// Of so many lists one ends with commands under way.
 const OPEN_ENDS: usize = 3;
 

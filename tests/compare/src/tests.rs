@@ -1,7 +1,10 @@
 //! The comparison finds nothing between the reference hub and itself, and finds
 //! each fault that is put in.
 
+use crate::addresses::{addresses_agree, Carrier, Field, Sweep};
+use crate::identities;
 use crate::layout::{block, cleared, encode, encode_at_once, same_state, ADVERTISING, STATE};
+use crate::lent::Lent;
 use crate::mirror::Mirror;
 use crate::playing::play;
 use crate::run::{Comparison, Failure};
@@ -10,9 +13,11 @@ use crate::script::examples;
 use crate::shrink::shrink;
 use crate::switches;
 use crate::target::Target;
+use crate::wrong_rule::{Rule, WrongRule};
 use reference::codes::command as code;
 use reference::controller::Controller;
 use reference::packet::frame;
+use reference::records::is_static_random;
 use reference::{Call, Hub};
 use std::fs::{read_dir, read_to_string};
 
@@ -238,8 +243,23 @@ fn advertising_ends_the_block_as_the_document_says() {
     assert_eq!(encode(&hub), before);
 }
 
-/// A change of the advertising part by hand.
+/// A change of octets by hand.
 type Edit = fn(&mut [u8]);
+
+/// Octets are read with each of the first changes in them, and with none of the others.
+fn tell_apart(octets: &[u8], well_formed: &[Edit], malformed: &[Edit], reads: impl Fn(&[u8]) -> bool) {
+    let changed = |edit: &Edit| {
+        let mut octets = octets.to_vec();
+        edit(&mut octets);
+        reads(&octets)
+    };
+    for (place, edit) in well_formed.iter().enumerate() {
+        assert!(changed(edit), "well formed {place}");
+    }
+    for (place, edit) in malformed.iter().enumerate() {
+        assert!(!changed(edit), "malformed {place}");
+    }
+}
 
 /// `small_hub` with instance 2, and with instance 5 on air.
 fn hub_on_air() -> Hub {
@@ -301,6 +321,33 @@ fn power_and_low_energy_have_to_fit_the_other_settings() {
 }
 
 #[test]
+fn addresses_and_keys_are_read_only_where_they_are_well_formed() {
+    let mut hub = small_hub();
+    let keys = [&[1, 0, 9, 8, 7, 6, 5, 0xC0, 2][..], &[0xAB; 16]].concat();
+    let packet = frame(code::LOAD_IDENTITY_KEYS, 1, &keys);
+    must(&mut hub, Call::Command { packet, room: 1024 }, 0);
+    let controller = hub.state().controller(1).expect("it is plugged");
+    let part = encode(&hub)[block(1)].to_vec();
+    assert_eq!(identities::read(&part, controller, true).as_ref(), Some(controller));
+    let well_formed: [Edit; 4] = [
+        |block| block[26..32].copy_from_slice(&[1, 0, 0, 0, 0, 0xC0]),
+        |block| block[2804..2810].copy_from_slice(&[0xFF, 0xFF, 0xFF, 0xFF, 0xFF, 0xFE]),
+        |block| (block[2804..2810].fill(0), block[2810] = 1).1,
+        |block| block[2800..2827].fill(0),
+    ];
+    let malformed: [Edit; 7] = [
+        |block| block[31] = 0xC0,
+        |block| block[26..32].fill(0xFF),
+        |block| block[26] = 1,
+        |block| block[2804..2809].fill(0),
+        |block| block[2810] = 0,
+        |block| block[2800] = 3,
+        |block| block[2827] = 1,
+    ];
+    tell_apart(&part, &well_formed, &malformed, |part| identities::read(part, controller, true).is_some());
+}
+
+#[test]
 fn the_advertising_part_is_read_only_where_it_is_well_formed() {
     let hub = hub_on_air();
     let controller = hub.state().controller(1).expect("it is plugged");
@@ -329,17 +376,7 @@ fn the_advertising_part_is_read_only_where_it_is_well_formed() {
         |part| part[23 + 4 * 32 + 2] = 1,
         |part| part[23 + 4 * 32] = 0,
     ];
-    let changed = |edit: &Edit| {
-        let mut part = part.clone();
-        edit(&mut part);
-        read(&part, controller)
-    };
-    for (place, edit) in well_formed.iter().enumerate() {
-        assert!(changed(edit).is_some(), "well formed {place}");
-    }
-    for (place, edit) in malformed.iter().enumerate() {
-        assert_eq!(changed(edit), None, "malformed {place}");
-    }
+    tell_apart(&part, &well_formed, &malformed, |part| read(part, controller).is_some());
 }
 
 #[test]
@@ -363,6 +400,59 @@ fn every_fault_is_found() {
     ];
     for fault in faults {
         assert!(!failure(fault).difference.is_empty());
+    }
+}
+
+/// Every part of every place that wants a static random address.
+fn address_places() -> impl Iterator<Item = (Carrier, Field)> {
+    let fields = [Field::StaticAddress, Field::LongTermKey, Field::IdentityKey];
+    let carriers = [Carrier::Command, Carrier::Image, Carrier::State].into_iter();
+    carriers.flat_map(move |carrier| fields.map(|field| (carrier, field)))
+}
+
+#[test]
+fn the_addresses_agree_on_the_reference_hub() {
+    let sweep = addresses_agree(&mut Lent::new(Mirror::default()));
+    let expected = Sweep { addresses: 101, places: 25, taken: 25 * 92, refused: 25 * 9 };
+    assert_eq!(sweep, Ok(expected));
+}
+
+/// Document 01's rule, which looks at the top two bits alone.
+const TOP_BITS: Rule = |address| address[5] >= 0xC0;
+
+// Each wrong rule stands in one place alone, the right one in all others: the sweep has to look at every place.
+#[test]
+fn a_rule_that_refuses_other_addresses_is_found_wherever_it_stands() {
+    const ZEROS: [u8; 6] = [0, 0, 0, 0, 0, 0xC0];
+    let rules: [(&str, Rule); 7] = [
+        ("the top two bits alone", TOP_BITS),
+        ("zeros below them alone", |address| TOP_BITS(address) && *address != ZEROS),
+        ("ones below them alone", |address| TOP_BITS(address) && *address != [0xFF; 6]),
+        ("D0:00:00:00:00:00 too", |address| is_static_random(address) && *address != [0, 0, 0, 0, 0, 0xD0]),
+        ("zeros in five octets", |address| is_static_random(address) && address[..5] != [0; 5]),
+        ("ones in five octets", |address| is_static_random(address) && address[..5] != [0xFF; 5]),
+        ("the bits below the top two alone", |&[a, b, c, d, e, f]| {
+            is_static_random(&[a, b, c, d, e, f | 0xC0])
+        }),
+    ];
+    for (name, takes) in rules {
+        for place in address_places() {
+            let sweep = addresses_agree(&mut Lent::new(WrongRule::new(takes, place)));
+            let difference = sweep.expect_err(&format!("{name} at {place:?} is not found"));
+            assert!(
+                difference.contains(&format!("carrier: {:?}, field: {:?}", place.0, place.1)),
+                "{difference}"
+            );
+        }
+    }
+}
+
+#[test]
+fn random_lists_and_images_find_the_top_bits_rule_too() {
+    for place in address_places().filter(|(carrier, _)| *carrier != Carrier::State) {
+        let target = || WrongRule::new(TOP_BITS, place);
+        let found = Comparison::new(3, target(), target()).run(100_000);
+        assert!(found.is_err(), "the top two bits alone at {place:?} are not found");
     }
 }
 

@@ -38,9 +38,15 @@ fn part<const N: usize>(octets: &[u8], at: usize) -> [u8; N] {
     out
 }
 
-/// Whether the address may be a static random one.
+/// The random part of an address: its 46 bits below the top two.
+const RANDOM_PART: u64 = (1 << 46) - 1;
+
+/// Whether the address is a static random one: both top bits are set, and its
+/// random part is neither all 0 nor all 1.
 pub fn is_static_random(address: &Address) -> bool {
-    address[5] >= 0xC0
+    let number = address.iter().rev().fold(0, |number, octet| number << 8 | u64::from(*octet));
+    let random = number & RANDOM_PART;
+    number >> 46 == 0b11 && random != 0 && random != RANDOM_PART
 }
 
 /// A device by address and address type; also the entry of the blocked table.

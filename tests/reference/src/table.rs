@@ -25,6 +25,12 @@ impl<R: Record> Table<R> {
         table
     }
 
+    /// A table of these slots, 32 of them.
+    pub fn of_slots(slots: Vec<Option<R>>) -> Table<R> {
+        assert_eq!(slots.len(), SLOTS);
+        Table { slots }
+    }
+
     /// All slots, free or taken.
     pub fn slots(&self) -> &[Option<R>] {
         &self.slots

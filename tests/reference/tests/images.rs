@@ -16,34 +16,6 @@ const STATIC_AT: usize = 24;
 const NAMES: usize = 30;
 const TABLES: usize = 290;
 
-/// Puts the length field right.
-fn sized(mut image: Vec<u8>) -> Vec<u8> {
-    let length = image.len() as u32;
-    image[..4].copy_from_slice(&length.to_be_bytes());
-    image
-}
-
-/// One controller at index 1 with these settings words, static address and tables.
-fn image_with(supported: u32, flags: u32, address: [u8; 6], tables: &[Vec<Vec<u8>>; 6]) -> Vec<u8> {
-    let mut out = vec![0, 0, 0, 0, 1, 1, 1];
-    out.extend(PUBLIC);
-    out.extend([6, 0x12, 0x34]);
-    out.extend(supported.to_be_bytes());
-    out.extend(flags.to_be_bytes());
-    out.extend(address);
-    out.extend([0; 260]);
-    for records in tables {
-        out.push(records.len() as u8);
-        out.extend(records.concat());
-    }
-    sized(out)
-}
-
-/// No entries in any table.
-fn no_tables() -> [Vec<Vec<u8>>; 6] {
-    Default::default()
-}
-
 /// Two entries in each table.
 fn some_tables() -> [Vec<Vec<u8>>; 6] {
     [

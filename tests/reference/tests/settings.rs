@@ -38,7 +38,7 @@ fn bit_15_wants_a_zero_public_address() {
     assert_eq!(send(&mut hub, 0x002B, 1, &[0; 6]), done(changed(0x002B, 1, 0x0200)));
     let low = [9, 8, 7, 6, 5, 0xBF];
     assert_eq!(send(&mut hub, 0x002B, 1, &low), refused(status(0x002B, 1, INVALID)));
-    assert_eq!(send(&mut hub, 0x002B, 1, &[0, 0, 0, 0, 0, 0xC0]), done(changed(0x002B, 1, 0x8200)));
+    assert_eq!(send(&mut hub, 0x002B, 1, &[1, 0, 0, 0, 0, 0xC0]), done(changed(0x002B, 1, 0x8200)));
 }
 
 #[test]

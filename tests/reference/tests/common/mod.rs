@@ -121,6 +121,34 @@ pub fn image(hub: &Hub) -> Vec<u8> {
     reply.octets
 }
 
+/// Puts the length field right.
+pub fn sized(mut image: Vec<u8>) -> Vec<u8> {
+    let length = image.len() as u32;
+    image[..4].copy_from_slice(&length.to_be_bytes());
+    image
+}
+
+/// One controller at index 1 with these settings words, static address and tables.
+pub fn image_with(supported: u32, flags: u32, address: [u8; 6], tables: &[Vec<Vec<u8>>; 6]) -> Vec<u8> {
+    let mut out = vec![0, 0, 0, 0, 1, 1, 1];
+    out.extend(PUBLIC);
+    out.extend([6, 0x12, 0x34]);
+    out.extend(supported.to_be_bytes());
+    out.extend(flags.to_be_bytes());
+    out.extend(address);
+    out.extend([0; 260]);
+    for records in tables {
+        out.push(records.len() as u8);
+        out.extend(records.concat());
+    }
+    sized(out)
+}
+
+/// No entries in any table.
+pub fn no_tables() -> [Vec<Vec<u8>>; 6] {
+    Default::default()
+}
+
 /// A device address that differs for each number.
 pub fn address(number: u8) -> [u8; 6] {
     [number, 0x22, 0x33, 0x44, 0x55, 0xC6]
