@@ -23,9 +23,10 @@ use Rattle.model.specs.State.{Controller, Host, settingsOf, withAdvertising, wi
 use Rattle.model.specs.Proof.Advertising.{advertising-fit}
 use Rattle.model.specs.Proof.Schedule.{on-air-five}
 use Rattle.layout.proofs.Advertising.{advertising-fine}
-use Rattle.model.specs.Reasons.{Reason, firstOf, statusOf}
-use Rattle.model.specs.Rules.{Immediate, done, refuse}
-use Rattle.model.specs.Immediate.{addAdvertising, advertised, advertisingChecks, unless}
+use Rattle.model.specs.Reasons.{firstOf, statusOf}
+use Rattle.model.specs.declared.Reason.{Reason}
+use Rattle.model.specs.Rules.{Immediate, done, refuse, act, unless}
+use Rattle.model.specs.Immediate.{addAdvertising, advertised, advertisingChecks}
 use Rattle.model.specs.Layout.{decode, encode}
 use Rattle.model.specs.Proof.Room.{length-complete}
 use Rattle.octets.specs.Parts.{part, writeAt}
@@ -87,12 +88,12 @@ module _ (s : Octets) (i : ℕ) (ps : Octets) (d d′ : Octets) (r : Answer) (gi
   add-length e n w = immediate-length s i Codes.addAdvertising ps addAdvertising d d′ r given big e n w
 
   -- a check that fails
-  act-refused : (x : Reason) → firstOf (advertisingChecks (here .radio) ps) ≡ some x → addAdvertising .act i here ps ≡ refuse x
+  act-refused : (x : Reason) → firstOf (advertisingChecks (here .radio) ps) ≡ some x → act addAdvertising i here ps ≡ refuse x
   unfolding addAdvertising unless
   act-refused x e = rw e
 
   -- none fails
-  act-done : firstOf (advertisingChecks (here .radio) ps) ≡ none → addAdvertising .act i here ps ≡ taken
+  act-done : firstOf (advertisingChecks (here .radio) ps) ≡ none → act addAdvertising i here ps ≡ taken
   unfolding addAdvertising unless
   act-done e = rw e
 
@@ -129,7 +130,7 @@ module _ (s : Octets) (i : ℕ) (ps : Octets) (d d′ : Octets) (r : Answer) (gi
   add-changed s′ old w z e eo ew p m v k =
       let h = withAdvertising (here .host) (advertised (here .radio .powered) ps (here .host .advertising)) in
       let q : present (here .host .advertising .schedule) (getD ps 0 0) ≡ true = rw eo at p in
-      let a : addAdvertising .act i here ps ≡ done (octet ps 0 ∷ []) [] h = act-done e ∙ rw (q, advertisingAdded) in
+      let a : act addAdvertising i here ps ≡ done (octet ps 0 ∷ []) [] h = act-done e ∙ rw (q, advertisingAdded) in
       let n : length (commandComplete i Codes.addAdvertising 0 (octet ps 0 ∷ []) ++ []) ≡ 10 =
       rw append-nil (length-complete i Codes.addAdvertising 0 (octet ps 0 ∷ [])) in
       immediate-done s i Codes.addAdvertising ps addAdvertising d d′ r given big z s′ (octet ps 0 ∷ []) [] h 10 a m n (lit≤ tt)
@@ -147,7 +148,7 @@ module _ (s : Octets) (i : ℕ) (ps : Octets) (d d′ : Octets) (r : Answer) (gi
       let c = commandComplete i Codes.addAdvertising 0 (octet ps 0 ∷ []) in
       let v = event Events.advertisingAdded i (octet ps 0 ∷ []) in
       let q : present (here .host .advertising .schedule) (getD ps 0 0) ≡ false = rw eo at p in
-      let a : addAdvertising .act i here ps ≡ done (octet ps 0 ∷ []) v h = act-done e ∙ rw (q, advertisingAdded) in
+      let a : act addAdvertising i here ps ≡ done (octet ps 0 ∷ []) v h = act-done e ∙ rw (q, advertisingAdded) in
       let nc : length c ≡ 10 = length-complete i Codes.addAdvertising 0 (octet ps 0 ∷ []) in
       let nv : length v ≡ 7 = length-event i (octet ps 0) in
       let n : length (c ++ v) ≡ 17 = length-append c v ∙ omega arith in

@@ -10,8 +10,10 @@ use lib.Dec.{eqb, leb, ltb}
 use borrow.Author.Tests.{eq-eqb, ne-eqb, le-leb, lt-leb, le-ltb, lt-ltb, leb-true, ltb-true, eqb-true}
 use Rattle.model.specs.declared.RadioSettings.{RadioSettings}
 use Rattle.model.specs.Octets.{Octets, allZero, octet, u16}
-use Rattle.model.specs.Reasons.{Check, Reason, advDataAbove31, advertisingFlags, firstOf, instanceNot1To5, leOff, refusedIf, scanRspAbove31, statusOf}
-use Rattle.model.specs.Reasons.{timeoutWhileUnpowered}
+use Rattle.model.specs.Reasons.{Check, firstOf, refusedAt, refusedIf, statusOf}
+use Rattle.model.specs.declared.Reason.{Reason}
+use Rattle.model.specs.declared.Reason.the-variants.{AdvDataAbove31, AdvertisingFlags, InstanceNot1To5, LowEnergyOff, ScanRspAbove31}
+use Rattle.model.specs.declared.Reason.the-variants.{AdvertisingTimeoutUnpowered}
 use Rattle.model.specs.Immediate.{addAdvertising, advertisingChecks}
 use Rattle.model.specs.Proof.Tests.{and-true, no-way, not-false}
 use Rattle.octets.specs.Parts.{part}
@@ -106,12 +108,12 @@ module _ (r : RadioSettings) (ps : Octets) where
 -- the reason of the first of the six checks that fails
 abbrev six : (a b c d e f : Bool) → Option Reason
 six a b c d e f = firstOf (
-    refusedIf a instanceNot1To5
-    ∷ refusedIf b advertisingFlags
-    ∷ refusedIf c advDataAbove31
-    ∷ refusedIf d scanRspAbove31
-    ∷ refusedIf e leOff
-    ∷ refusedIf f timeoutWhileUnpowered
+    refusedAt 0 a InstanceNot1To5
+    ∷ refusedAt 1 b AdvertisingFlags
+    ∷ refusedAt 9 c AdvDataAbove31
+    ∷ refusedAt 10 d ScanRspAbove31
+    ∷ refusedIf e LowEnergyOff
+    ∷ refusedIf f AdvertisingTimeoutUnpowered
     ∷ [])
 
 -- each of them has a status
@@ -140,20 +142,20 @@ some-refuses none n = absurd (n refl)
 some-refuses (some y) n = (y, refl, refl)
 
 -- no check fails: not the first, nor any behind it
-first-none : (b : Bool) (x : Reason) (cs : List Check) → firstOf (refusedIf b x ∷ cs) ≡ none → (b ≡ false) × (firstOf cs ≡ none)
+first-none : (b : Bool) (x : Reason) (n : ℕ) (cs : List Check) → firstOf (refusedAt n b x ∷ cs) ≡ none → (b ≡ false) × (firstOf cs ≡ none)
 unfolding firstOf
-first-none true x cs e = let z : _≡_ {A = ℕ} 0 1 = cc in absurd (omega arith)
-first-none false x cs e = (refl, e)
+first-none true x n cs e = let z : _≡_ {A = ℕ} 0 1 = cc in absurd (omega arith)
+first-none false x n cs e = (refl, e)
 
 -- what the passed checks say of the values
 pub checks-passed : (r : RadioSettings) (ps : Octets) → firstOf (advertisingChecks r ps) ≡ none
     → (1 ≤ getD ps 0 0) × (getD ps 0 0 ≤ 5) × (getD ps 9 0 ≤ 31) × (getD ps 10 0 ≤ 31)
 unfolding advertisingChecks octet
 checks-passed r ps e =
-    let a = first-none _ _ _ e in
-    let b = first-none _ _ _ (a .1) in
-    let c = first-none _ _ _ (b .1) in
-    let d = first-none _ _ _ (c .1) in
+    let a = first-none _ _ 0 _ e in
+    let b = first-none _ _ 1 _ (a .1) in
+    let c = first-none _ _ 9 _ (b .1) in
+    let d = first-none _ _ 10 _ (c .1) in
     let f = and-true (leb 1 (getD ps 0 0)) _ (not-false _ (a .0)) in
     let g : 31 < getD ps 9 0 → ⊥ = λ l. no-way (sym (lt-ltb _ _ l) ∙ c .0) in
     let h : 31 < getD ps 10 0 → ⊥ = λ l. no-way (sym (lt-ltb _ _ l) ∙ d .0) in

@@ -18,9 +18,10 @@ use Rattle.model.specs.declared.Settings.{Settings}
 use Rattle.model.specs.Advertising.{advertisingRemoved, durationOf, instances, present, removedInstance, removedOf, rescheduled, valueOf}
 use Rattle.model.specs.Octets.{Octets, commandComplete, commandStatus, octet}
 use Rattle.model.specs.State.{Controller, settingsOf, withAdvertising, withHost, withSchedule}
-use Rattle.model.specs.Reasons.{firstOf, instanceAbsent, statusOf}
-use Rattle.model.specs.Rules.{done, refuse}
-use Rattle.model.specs.Immediate.{removeAdvertising, sized, unless}
+use Rattle.model.specs.Reasons.{firstOf, statusOf}
+use Rattle.model.specs.declared.Reason.the-variants.{InstanceAbsent}
+use Rattle.model.specs.Rules.{done, refuse, act, unless}
+use Rattle.model.specs.Immediate.{removeAdvertising, sized}
 use Rattle.model.specs.Layout.{decode, encode}
 use Rattle.model.specs.Proof.Room.{length-complete}
 use Rattle.octets.specs.Parts.{writeAt}
@@ -101,13 +102,13 @@ module _ (s : Octets) (i : ℕ) (ps : Octets) (d d′ : Octets) (r : Answer) (gi
 
   -- an instance that is not there refuses
   act-absent : eqb (getD ps 0 0) 0 || present (here .host .advertising .schedule) (getD ps 0 0) ≡ false
-      → removeAdvertising .act i here ps ≡ refuse instanceAbsent
+      → act removeAdvertising i here ps ≡ refuse InstanceAbsent
   unfolding removeAdvertising unless firstOf octet
   act-absent p = rw (none-of (eqb (getD ps 0 0) 0) (present (here .host .advertising .schedule) (getD ps 0 0)) p)
 
   -- all, or one that is there
   act-done : eqb (getD ps 0 0) 0 || present (here .host .advertising .schedule) (getD ps 0 0) ≡ true
-      → removeAdvertising .act i here ps ≡ done (getD ps 0 0 ∷ [])
+      → act removeAdvertising i here ps ≡ done (getD ps 0 0 ∷ [])
       (removedOf i (here .host .advertising .schedule) (removedInstance (getD ps 0 0) (here .host .advertising .schedule)) instances)
       (withAdvertising (here .host) (rescheduled (here .host .advertising) (removedInstance (getD ps 0 0) (here .host .advertising .schedule))))
   unfolding removeAdvertising unless firstOf octet advertisingRemoved rescheduled
@@ -120,7 +121,7 @@ module _ (s : Octets) (i : ℕ) (ps : Octets) (d d′ : Octets) (r : Answer) (gi
       → Gives (immediateCommand s i Codes.removeAdvertising ps removeAdvertising) r d d′ s
   unfolding statusOf
   remove-absent old e eo p n w =
-      immediate-status s i Codes.removeAdvertising ps removeAdvertising d d′ r given big (size-one e) instanceAbsent by-status (act-absent (rw eo at p)) n w
+      immediate-status s i Codes.removeAdvertising ps removeAdvertising d d′ r given big (size-one e) InstanceAbsent by-status (act-absent (rw eo at p)) n w
 
   -- done: the reply, and Advertising Removed for each that went
   pub remove-done : (s′ : Octets) (m : Settings) (old next : Schedule) (n : ℕ) → length ps ≡ 1

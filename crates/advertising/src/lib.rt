@@ -23,7 +23,7 @@ use model::codes;
 use model::statuses;
 
 // Whether the parameters of Add Advertising are as many as its two data lengths say.
-fn sized(ps: &[u8]) -> bool
+pub fn sized(ps: &[u8]) -> bool
     ensures { λ r. ⌜ r ≡ addAdvertising .size (now (ps .entry)) ⌝ }
 {
     if ps.len() < 11 {
@@ -119,7 +119,7 @@ pub fn add_advertising(state: &mut [u8], index: u64, ps: &[u8], reply: &mut [u8]
 }
 
 // Whether Remove Advertising of k has something to name: all instances, or one that is there.
-fn removable(s: Schedule, k: u8) -> bool
+pub fn removable(s: Schedule, k: u8) -> bool
     ensures { λ r. ⌜ (r ≡ (eqb k 0 || present s k)) × (r ≡ true → k ≤ 5) ⌝ }
 {
     if k == 0 {

@@ -10,7 +10,8 @@ use lib.Dec.{eqb, ltb}
 use Rattle.model.specs.Events as Events
 use Rattle.model.specs.Octets.{Octets, octet, allZero, event, commandComplete}
 use Rattle.model.specs.State.{Table}
-use Rattle.model.specs.Reasons.{Check, refusedIf, addressTypeAbove2, addressZeroNotBredr}
+use Rattle.model.specs.Reasons.{Check, refusedAt}
+use Rattle.model.specs.declared.Reason.the-variants.{AddressTypeAbove2, AddressZeroNotBredr}
 use Rattle.model.specs.Tables.{begins, entries, holds, free}
 use Rattle.table.specs.Slots.{firstAt, joinedByOr}
 
@@ -40,4 +41,5 @@ classReply index code old new = commandComplete index code 0 (classWith new) ++ 
 
 -- the values of Remove Device: one of three types, and a zero address, which stands for all, only as a BR/EDR address (01, Commands, 0x0034)
 unfoldable pub removalChecks : Octets → List Check
-removalChecks ps = (refusedIf (ltb 2 (octet ps 6)) addressTypeAbove2) ∷ (refusedIf (allZero (take 6 ps) && not (eqb (octet ps 6) 0)) addressZeroNotBredr) ∷ []
+removalChecks ps = (refusedAt 6 (ltb 2 (octet ps 6)) AddressTypeAbove2) ∷
+    (refusedAt 6 (allZero (take 6 ps) && not (eqb (octet ps 6) 0)) AddressZeroNotBredr) ∷ []

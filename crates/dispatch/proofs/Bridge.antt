@@ -13,7 +13,8 @@ use Rattle.model.specs.Codes as Codes
 use Rattle.model.specs.Lengths as Lengths
 use Rattle.model.specs.Octets.{Octets, commandStatus}
 use Rattle.model.specs.State.{PlainHub}
-use Rattle.model.specs.Reasons.{statusOf, codeUnknown, controllerAbsent}
+use Rattle.model.specs.Reasons.{statusOf}
+use Rattle.model.specs.declared.Reason.the-variants.{CodeUnknown, ControllerAbsent}
 use Rattle.model.specs.Rules.{Rule, immediate, radio, ImmediateRule, RadioRule, setPowered, setDiscoverable, setConnectable, setLowEnergy, setStaticAddress}
 use Rattle.model.specs.Rules.{general as generalRule}
 use Rattle.model.specs.Immediate.{setBondable, setLocalName, addUuid, removeUuid, loadKeys, linkKeyList, longTermKeyList, identityKeyList}
@@ -55,7 +56,7 @@ module _ (s : Octets) (i code known : ℕ) (ps d d′ s′ : Octets) (r : Answer
 -- 2. Refusals -----------------------------------------------------------------------------------------------------------------------------------
 
 -- the rule of a command to a controller
-toController : Option Rule → Bool
+unfoldable pub toController : Option Rule → Bool
 toController none = false
 toController (some (generalRule f)) = false
 toController (some (immediate q)) = true
@@ -78,19 +79,20 @@ member-to code (c ∷ cs) a m = let b = and-true (toController (rule c)) _ a in 
     go false e m t k = k m
 
 -- so has every code of the five groups
-codes-to : (code : ℕ) → member code controllerCodes ≡ true → toController (rule code) ≡ true
+pub codes-to : (code : ℕ) → member code controllerCodes ≡ true → toController (rule code) ≡ true
 unfolding allTo toController rule find rows controllerCodes settingsCodes keyCodes deviceCodes advertisingCodes informationCodes
 codes-to code m = member-to code controllerCodes refl m
 
 -- a code other than 1, 2 and 3 is not general
-general-none : (code : ℕ) → (code ≡ Codes.readVersion → ⊥) → (code ≡ Codes.readCommands → ⊥) → (code ≡ Codes.readIndexes → ⊥) → member code generalCodes ≡ false
+pub general-none : (code : ℕ) → (code ≡ Codes.readVersion → ⊥) → (code ≡ Codes.readCommands → ⊥) → (code ≡ Codes.readIndexes → ⊥)
+    → member code generalCodes ≡ false
 unfolding member generalCodes
 general-none code a b c = rw (ne-eqb code 1 a, ne-eqb code 2 b, ne-eqb code 3 c)
 
 module _ (s : Octets) (i code : ℕ) (ps d d′ : Octets) (r : Answer) (ok : stateOk s ≡ true) (big : Lengths.replyBuffer ≤ length d) where
   -- whichever rule of a command to a controller it is, an absent index is Invalid Index
   absent-by : presentAt s i ≡ false → (u : Option Rule) → rule code ≡ u → toController u ≡ true
-      → anyCommand s i code ps ≡ ended s (refused (byStatus i code) controllerAbsent)
+      → anyCommand s i code ps ≡ ended s (refused (byStatus i code) ControllerAbsent)
   unfolding toController
   absent-by e none eu t = no-way (sym t)
   absent-by e (some (generalRule f)) eu t = no-way (sym t)
@@ -101,7 +103,7 @@ module _ (s : Octets) (i code : ℕ) (ps d d′ : Octets) (r : Answer) (ok : sta
   pub arm-absent : member code controllerCodes ≡ true → presentAt s i ≡ false → r ≡ Refused 9
       → d′ ≡ writeAt d 0 (commandStatus i code Statuses.invalidIndex) → Gives (anyCommand s i code ps) r d d′ s
   unfolding statusOf
-  arm-absent m e n w = rw (absent-by e (rule code) refl (codes-to code m)) (ends-refused s i code controllerAbsent d d′ r ok big n w)
+  arm-absent m e n w = rw (absent-by e (rule code) refl (codes-to code m)) (ends-refused s i code ControllerAbsent d d′ r ok big n w)
 
   -- a code that is not known
   pub arm-unknown : (code ≡ Codes.readVersion → ⊥) → (code ≡ Codes.readCommands → ⊥) → (code ≡ Codes.readIndexes → ⊥)
@@ -109,7 +111,7 @@ module _ (s : Octets) (i code : ℕ) (ps d d′ : Octets) (r : Answer) (ok : sta
       → Gives (anyCommand s i code ps) r d d′ s
   unfolding statusOf
   arm-unknown a b c m n w =
-      rw (route-unknown s i code ps (rule-unknown code (general-none code a b c) m)) (ends-refused s i code codeUnknown d d′ r ok big n w)
+      rw (route-unknown s i code ps (rule-unknown code (general-none code a b c) m)) (ends-refused s i code CodeUnknown d d′ r ok big n w)
 
 -- 3. The groups ---------------------------------------------------------------------------------------------------------------------------------
 

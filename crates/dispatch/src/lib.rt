@@ -14,7 +14,7 @@ use model::codes;
 use model::statuses;
 
 // Whether a code is that of a settings command.
-fn is_settings(code: u64) -> bool
+pub fn is_settings(code: u64) -> bool
     ensures { λ r. ⌜ r ≡ member code settingsCodes ⌝ }
 {
     if code == codes::SET_POWERED {
@@ -36,7 +36,7 @@ fn is_settings(code: u64) -> bool
 }
 
 // Whether a code is that of a key list or Unpair Device.
-fn is_keys(code: u64) -> bool
+pub fn is_keys(code: u64) -> bool
     ensures { λ r. ⌜ r ≡ member code keyCodes ⌝ }
 {
     if code == codes::LOAD_LINK_KEYS {
@@ -52,7 +52,7 @@ fn is_keys(code: u64) -> bool
 }
 
 // Whether a code is that of a command on UUIDs, blocked devices or devices.
-fn is_devices(code: u64) -> bool
+pub fn is_devices(code: u64) -> bool
     ensures { λ r. ⌜ r ≡ member code deviceCodes ⌝ }
 {
     if code == codes::ADD_UUID {
@@ -74,7 +74,7 @@ fn is_devices(code: u64) -> bool
 }
 
 // Whether a code is that of Add Advertising or Remove Advertising.
-fn is_advertising(code: u64) -> bool
+pub fn is_advertising(code: u64) -> bool
     ensures { λ r. ⌜ r ≡ member code advertisingCodes ⌝ }
 {
     if code == codes::ADD_ADVERTISING {
@@ -84,7 +84,7 @@ fn is_advertising(code: u64) -> bool
 }
 
 // Whether a code is that of Read Controller Information or Set Local Name.
-fn is_information(code: u64) -> bool
+pub fn is_information(code: u64) -> bool
     ensures { λ r. ⌜ r ≡ member code informationCodes ⌝ }
 {
     if code == codes::READ_INFORMATION {
@@ -94,7 +94,7 @@ fn is_information(code: u64) -> bool
 }
 
 // Whether a code is that of a command to a controller.
-fn to_controller(code: u64) -> bool
+pub fn to_controller(code: u64) -> bool
     ensures { λ r. ⌜ r ≡ member code controllerCodes ⌝ }
 {
     if is_settings(code) {

@@ -15,7 +15,8 @@ use Rattle.model.specs.declared.Hardware.{Hardware}
 use Rattle.model.specs.declared.Settings.{Settings}
 use Rattle.model.specs.Octets.{Octets, le16, le32, commandComplete, commandStatus}
 use Rattle.model.specs.State.{Controller, currentSettings, settingsOf, tableOf, withController, withHost}
-use Rattle.model.specs.Rules.{done}
+use Rattle.model.specs.Reasons.{firstOf}
+use Rattle.model.specs.Rules.{done, act, unless}
 use Rattle.model.specs.Immediate.{sized, classOf, readInformation}
 use Rattle.model.specs.Tables.{entries, tableRules, uuidRule}
 use Rattle.model.specs.Layout.{encode, decode}
@@ -94,8 +95,8 @@ unfolding readInformation sized
 size-false ps e = ne-eqb (length ps) 0 e
 
 -- it returns the information, has no events, and leaves the host part as it was
-act-is : (i : ℕ) (c : Controller) (ps : Octets) → readInformation .act i c ps ≡ done (informationOf c) [] (c .host)
-unfolding readInformation informationOf
+act-is : (i : ℕ) (c : Controller) (ps : Octets) → act readInformation i c ps ≡ done (informationOf c) [] (c .host)
+unfolding readInformation informationOf firstOf unless
 act-is i c ps = refl
 
 module _ (s : Octets) (i : ℕ) (ps d d′ : Octets) (r : Answer) (g : Ready s i) (big : Lengths.replyBuffer ≤ length d) where

@@ -13,7 +13,8 @@ use Rattle.model.specs.Statuses as Statuses
 use Rattle.model.specs.Lengths as Lengths
 use Rattle.model.specs.Octets.{Octets, le16, commandComplete, commandStatus}
 use Rattle.model.specs.State.{Controller, PlainHub}
-use Rattle.model.specs.Reasons.{statusOf, lengthWrong, indexNotNone}
+use Rattle.model.specs.Reasons.{statusOf}
+use Rattle.model.specs.declared.Reason.the-variants.{LengthWrong, IndexNotNone}
 use Rattle.model.specs.Commands.{readVersion, readCommands, readIndexes, words, commandCodes, eventCodes, presentFrom}
 use Rattle.model.specs.Hub.{finished, refused, byStatus, generalOut}
 use Rattle.model.specs.Layout.{decode, controllersIn}
@@ -35,13 +36,13 @@ use Rattle.model.specs.Proof.Room.{length-complete, length-le16}
 
 -- the model refuses an index other than 0xFFFF with Invalid Index
 out-index : (p : PlainHub) (i code : ℕ) (ps : Octets) (f : PlainHub → Octets) → (i ≡ 65535 → ⊥)
-    → generalOut p i code ps f ≡ refused (byStatus i code) indexNotNone
+    → generalOut p i code ps f ≡ refused (byStatus i code) IndexNotNone
 unfolding generalOut
 out-index p i code ps f e = rw (ne-eqb i 65535 e, generalOut)
 
 -- then it refuses any parameters with Invalid Parameters
 out-length : (p : PlainHub) (i code : ℕ) (ps : Octets) (f : PlainHub → Octets) → i ≡ 65535 → (length ps ≡ 0 → ⊥)
-    → generalOut p i code ps f ≡ refused (byStatus i code) lengthWrong
+    → generalOut p i code ps f ≡ refused (byStatus i code) LengthWrong
 unfolding generalOut
 out-length p i code ps f e l = rw (eq-eqb i 65535 e, generalOut, ne-eqb (length ps) 0 l)
 
@@ -51,18 +52,19 @@ out-done : (p : PlainHub) (i code : ℕ) (ps : Octets) (f : PlainHub → Octets)
 unfolding generalOut
 out-done p i code ps f e l = rw (eq-eqb i 65535 e, generalOut, eq-eqb (length ps) 0 l)
 
-module _ (i code : ℕ) (ps d d′ : Octets) (r : Answer) (s : Octets) (f : PlainHub → Octets) (ok : stateOk s ≡ true) (big : Lengths.replyBuffer ≤ length d) where
+module _ (i code : ℕ) (ps d d′ : Octets) (r : Answer) (s : Octets) (f : PlainHub → Octets) (ok : stateOk s ≡ true)
+    (big : Lengths.replyBuffer ≤ length d) where
   -- another index
   pub general-index : (i ≡ 65535 → ⊥) → r ≡ Refused 9 → d′ ≡ writeAt d 0 (commandStatus i code Statuses.invalidIndex)
       → Gives (generalCommand s i code ps f) r d d′ s
   unfolding generalCommand statusOf
-  general-index e n w = rw (out-index (decode s .plain) i code ps f e) (ends-refused s i code indexNotNone d d′ r ok big n w)
+  general-index e n w = rw (out-index (decode s .plain) i code ps f e) (ends-refused s i code IndexNotNone d d′ r ok big n w)
 
   -- parameters
   pub general-length : i ≡ 65535 → (length ps ≡ 0 → ⊥) → r ≡ Refused 9 → d′ ≡ writeAt d 0 (commandStatus i code Statuses.invalidParameters)
       → Gives (generalCommand s i code ps f) r d d′ s
   unfolding generalCommand statusOf
-  general-length e l n w = rw (out-length (decode s .plain) i code ps f e l) (ends-refused s i code lengthWrong d d′ r ok big n w)
+  general-length e l n w = rw (out-length (decode s .plain) i code ps f e l) (ends-refused s i code LengthWrong d d′ r ok big n w)
 
   -- done: the state is as it was
   pub general-done : i ≡ 65535 → length ps ≡ 0 → (body : Octets) → length body ≤ 1000 → f (decode s .plain) ≡ body → r ≡ Done (9 + length body)

@@ -15,9 +15,10 @@ use Rattle.model.specs.Events as Events
 use Rattle.model.specs.Lengths as Lengths
 use Rattle.model.specs.Octets.{Octets, octet, same, usedPart, event, commandComplete, commandStatus}
 use Rattle.model.specs.State.{Controller, nameEnds, shortNameEnds, namePart, withHost, withName}
-use Rattle.model.specs.Reasons.{firstOf, statusOf, nameNotEnded, shortNameNotEnded}
-use Rattle.model.specs.Rules.{refuse, done}
-use Rattle.model.specs.Immediate.{unless, sized, setLocalName}
+use Rattle.model.specs.Reasons.{firstOf, statusOf}
+use Rattle.model.specs.declared.Reason.the-variants.{NameNotEnded, ShortNameNotEnded}
+use Rattle.model.specs.Rules.{refuse, done, act, unless}
+use Rattle.model.specs.Immediate.{sized, setLocalName}
 use Rattle.model.specs.Hub.{finished, badArgument, answerOf, octetsOf, stateOf}
 use Rattle.model.specs.Layout.{encode, decode}
 use Rattle.model.specs.Meanings.{nameOut, stateOk}
@@ -43,12 +44,12 @@ unfolding setLocalName sized
 size-false ps e = ne-eqb (length ps) 260 e
 
 -- the last octet of the name is not zero: refused
-act-name : (i : ℕ) (c : Controller) (ps : Octets) → (getD ps 248 0 ≡ 0 → ⊥) → setLocalName .act i c ps ≡ refuse nameNotEnded
+act-name : (i : ℕ) (c : Controller) (ps : Octets) → (getD ps 248 0 ≡ 0 → ⊥) → act setLocalName i c ps ≡ refuse NameNotEnded
 unfolding setLocalName nameEnds octet firstOf unless
 act-name i c ps e = rw (ne-eqb (getD ps 248 0) 0 e)
 
 -- the name ends with zero, but the last octet of the short name is not zero: refused
-act-short : (i : ℕ) (c : Controller) (ps : Octets) → getD ps 248 0 ≡ 0 → (getD ps 259 0 ≡ 0 → ⊥) → setLocalName .act i c ps ≡ refuse shortNameNotEnded
+act-short : (i : ℕ) (c : Controller) (ps : Octets) → getD ps 248 0 ≡ 0 → (getD ps 259 0 ≡ 0 → ⊥) → act setLocalName i c ps ≡ refuse ShortNameNotEnded
 unfolding setLocalName nameEnds shortNameEnds octet firstOf unless
 act-short i c ps e f = rw (eq-eqb (getD ps 248 0) 0 e, ne-eqb (getD ps 259 0) 0 f)
 
@@ -58,9 +59,9 @@ nameChanged b i ps = elim b [ true ↦ [] | false ↦ event Events.localNameChan
 
 -- both end with zero: they are returned and kept, and the event follows if they are new
 act-done : (i : ℕ) (c : Controller) (ps : Octets) (b : Bool) → getD ps 248 0 ≡ 0 → getD ps 259 0 ≡ 0 → same ps (c .host .name) ≡ b
-    → setLocalName .act i c ps ≡ done ps (nameChanged b i ps) (withName (c .host) ps)
+    → act setLocalName i c ps ≡ done ps (nameChanged b i ps) (withName (c .host) ps)
 unfolding setLocalName nameEnds shortNameEnds octet firstOf unless nameChanged
-act-done i c ps b e f g = rw (eq-eqb (getD ps 248 0) 0 e, eq-eqb (getD ps 259 0) 0 f, g)
+act-done i c ps b e f g = rw (eq-eqb (getD ps 248 0) 0 e, eq-eqb (getD ps 259 0) 0 f, ← g)
 
 -- the octets compared are all of the parameters, and the name that stands there
 same-name : (s : Octets) (i : ℕ) (ps : Octets) (place : ℕ) (b : Bool) → length ps ≡ 260 → place ≡ placeOf i 4 → b ≡ same (part ps 0 260) (part s place 260)
@@ -80,14 +81,14 @@ module _ (s : Octets) (i : ℕ) (ps d d′ : Octets) (r : Answer) (g : Ready s i
   pub name-open : length ps ≡ 260 → (getD ps 248 0 ≡ 0 → ⊥) → r ≡ Refused 9 → d′ ≡ writeAt d 0 (commandStatus i 15 Statuses.invalidParameters)
       → Gives (immediateCommand s i 15 ps setLocalName) r d d′ s
   unfolding statusOf setLocalName
-  name-open l e n w = immediate-status s i 15 ps setLocalName d d′ r g big (size-true ps l) nameNotEnded refl (act-name i (controllerOf s i) ps e) n w
+  name-open l e n w = immediate-status s i 15 ps setLocalName d d′ r g big (size-true ps l) NameNotEnded refl (act-name i (controllerOf s i) ps e) n w
 
   -- the name does, the short name does not: Invalid Parameters
   pub short-open : length ps ≡ 260 → getD ps 248 0 ≡ 0 → (getD ps 259 0 ≡ 0 → ⊥) → r ≡ Refused 9
       → d′ ≡ writeAt d 0 (commandStatus i 15 Statuses.invalidParameters) → Gives (immediateCommand s i 15 ps setLocalName) r d d′ s
   unfolding statusOf setLocalName
   short-open l e f n w =
-      immediate-status s i 15 ps setLocalName d d′ r g big (size-true ps l) shortNameNotEnded refl (act-short i (controllerOf s i) ps e f) n w
+      immediate-status s i 15 ps setLocalName d d′ r g big (size-true ps l) ShortNameNotEnded refl (act-short i (controllerOf s i) ps e f) n w
 
   module _ (l : length ps ≡ 260) (e : getD ps 248 0 ≡ 0) (f : getD ps 259 0 ≡ 0) (place : ℕ) (p : place ≡ placeOf i 4) (b : Bool)
       (k : b ≡ same (part ps 0 260) (part s place 260)) (s′ : Octets)

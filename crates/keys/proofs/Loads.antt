@@ -2,8 +2,8 @@
 use Prim.Native.Nat.{ℕ, zero, suc, _+_, _*_, _≤_, _<_}
 use native.Mathlib.Omega.{arith}
 use mathlib.Core.Path.{_≡_, refl, sym, _∙_}
-use mathlib.Core.Bool.{Bool, true, false}
-use mathlib.Core.List.{List, [], _∷_, _++_, append-assoc, append-nil}
+use mathlib.Core.Bool.{Bool, true, false, not}
+use mathlib.Core.List.{List, [], _∷_, _++_, append-assoc, append-nil, map}
 use mathlib.Core.Option.{none, some}
 use lib.ListN.{length, getD, drop}
 use lib.Dec.{eqb, leb, ltb}
@@ -13,10 +13,15 @@ use Rattle.model.specs.Lengths as Lengths
 use Rattle.model.specs.declared.Hardware.{Hardware}
 use Rattle.model.specs.Octets.{Octets, octet, u16, commandComplete, commandStatus}
 use Rattle.model.specs.State.{Controller, withHost, withTable}
-use Rattle.model.specs.Reasons.{Reason, Check, refusedIf, firstOf, noReason, passes, statusOf, countAbove32, debugFlagAbove1}
-use Rattle.model.specs.Tables.{chop, loaded, tableRules, leAddressChecks, linkKeyRule, longTermKeyRule, identityKeyRule, needsBredr, needsLe}
-use Rattle.model.specs.Rules.{refuse, done}
-use Rattle.model.specs.Immediate.{KeyList, listChecks, loadKeys, unless, linkKeyList, longTermKeyList, identityKeyList}
+use Rattle.model.specs.Reasons.{Check, refusedAt, refusedIf, firstOf, noReason, passes, statusOf}
+use Rattle.model.specs.declared.Place.{Place}
+use Rattle.model.specs.declared.Reason.{Reason}
+use Rattle.model.specs.declared.Reason.the-variants.{CountAbove32, DebugFlagAbove1, RecordRepeated}
+use Rattle.model.specs.Tables.{chop, distinct, loaded, tableRules, leAddressChecks, linkKeyRule, longTermKeyRule, identityKeyRule, needsBredr, needsLe}
+use Rattle.model.specs.Rules.{refuse, done, act, unless}
+use Rattle.model.specs.Immediate as M
+use Rattle.model.specs.Proof.Places.{first-both}
+use Rattle.model.specs.Immediate.{KeyList, listChecks, loadKeys, recordsOf, repeatCheck, linkKeyList, longTermKeyList, identityKeyList}
 use Rattle.model.specs.Layout.{decode, encode, region}
 use Rattle.model.specs.Proof.Tables.{length-chop}
 use Rattle.model.specs.Tables.{ruleAt}
@@ -30,9 +35,10 @@ use Rattle.model.specs.declared.Answer.{Answer}
 use Rattle.model.specs.declared.Answer.the-variants.{Done, Refused}
 use Rattle.outcomes.specs.Outcomes.{immediateCommand}
 use Rattle.outcomes.proofs.Endings.{immediate-length, immediate-status, immediate-done}
-use Rattle.lists.specs.Lists.{valueChecks}
+use Rattle.lists.specs.Lists.{eachChecks, valueChecks}
 use Rattle.keys.specs.Lists.{keyList, ListOf}
-use Rattle.keys.proofs.Checks.{AllOfStatus, FailsWith, fails-with, values-status, first-fails, first-holds, passes-none, append-fails, append-passes}
+use Rattle.keys.proofs.Checks.{AllOfStatus, FailsWith, fails-with, values-status, first-fails, first-holds, first-numbered, passes-none}
+use Rattle.keys.proofs.Checks.{append-fails, append-passes}
 use Rattle.model.specs.Proof.Room.{length-complete}
 
 -- 1. The three lists ------------------------------------------------------------------------------------------------------------------------------
@@ -81,19 +87,35 @@ support-status (suc (suc (suc k))) f = (refl, tt)
 
 -- 2. The checks of a list, in order -----------------------------------------------------------------------------------------------------------------
 
+-- a check with another place
+replaced : (b : Bool) (x : Reason) (p q : Place) (cs ds : List Check) → firstOf cs ≡ firstOf ds
+    → firstOf (record { fails = b; reason = x; place = p } ∷ cs) ≡ firstOf (record { fails = b; reason = x; place = q } ∷ ds)
+unfolding firstOf
+replaced true x p q cs ds e = refl
+replaced false x p q cs ds e = e
+
 module _ (l : KeyList) (f : Hardware) (ps : Octets) (n : ℕ) (rs : List Octets) where
-  -- the checks are count, head, values and support
-  checks-are : listChecks l f ps n rs ≡ (refusedIf (ltb 32 n) countAbove32) ∷ (l .headChecks ps ++ (valueChecks (l .rule) rs ++ l .rule .support f))
+  -- a list is refused for count, head, values or support
+  checks-are : firstOf (listChecks l f ps n rs)
+      ≡ firstOf ((refusedIf (ltb 32 n) CountAbove32) ∷ (l .headChecks ps ++ (valueChecks (l .rule) rs ++ l .rule .support f)))
   unfolding listChecks valueChecks
-  checks-are = rw append-assoc
+  checks-are =
+      let numbered : List Check = M.recordChecks (l .rule) 0 (l .countAt + 2) rs in
+      let keys : List Octets = map (l .rule .key) rs in
+      let again : Check = refusedIf (not (distinct keys)) RecordRepeated in
+      let last : firstOf (repeatCheck keys ∷ l .rule .support f) ≡ firstOf (again ∷ l .rule .support f) =
+      replaced _ _ _ _ _ _ refl in
+      let values : firstOf (numbered ++ (repeatCheck keys ∷ l .rule .support f)) ≡ firstOf (valueChecks (l .rule) rs ++ l .rule .support f) =
+      first-both numbered _ (eachChecks (l .rule) rs) _ (first-numbered (l .rule) 0 (l .countAt + 2) rs) last ∙ rw append-assoc in
+      replaced _ _ _ _ _ _ (first-both (l .headChecks ps) _ (l .headChecks ps) _ refl values)
 
   -- a count above 32 is the first to fail
-  count-fails : 32 < n → firstOf (listChecks l f ps n rs) ≡ some countAbove32
-  count-fails h = rw checks-are (first-fails (refusedIf (ltb 32 n) countAbove32) _ (lt-ltb 32 n h))
+  count-fails : 32 < n → firstOf (listChecks l f ps n rs) ≡ some CountAbove32
+  count-fails h = checks-are ∙ first-fails (refusedIf (ltb 32 n) CountAbove32) _ (lt-ltb 32 n h)
 
   -- with a count of at most 32 the checks of head, values and support tell
   past-count : n ≤ 32 → firstOf (listChecks l f ps n rs) ≡ firstOf (l .headChecks ps ++ (valueChecks (l .rule) rs ++ l .rule .support f))
-  past-count h = rw checks-are (first-holds (refusedIf (ltb 32 n) countAbove32) _ (le-ltb 32 n h))
+  past-count h = checks-are ∙ first-holds (refusedIf (ltb 32 n) CountAbove32) _ (le-ltb 32 n h)
 
   -- then the head tells, where it fails
   head-fails : (status : ℕ) → n ≤ 32 → FailsWith (l .headChecks ps) status → FailsWith (listChecks l f ps n rs) status
@@ -116,22 +138,18 @@ module _ (l : KeyList) (f : Hardware) (ps : Octets) (n : ℕ) (rs : List Octets)
 
 -- 3. What the model's rule does with a list -----------------------------------------------------------------------------------------------------------
 
--- its records
-abbrev recordsOf : KeyList → Octets → List Octets
-recordsOf l ps = chop (l .rule .size) (u16 ps (l .countAt)) (drop (l .countAt + 2) ps)
-
 -- the checks that it makes
 abbrev checksOf : KeyList → Controller → Octets → List Check
 checksOf l c ps = listChecks l (c .radio .hardware) ps (u16 ps (l .countAt)) (recordsOf l ps)
 
 -- a list with a check that fails is refused, for the reason of the first
-act-refuses : (l : KeyList) (i : ℕ) (c : Controller) (ps : Octets) (x : Reason) → firstOf (checksOf l c ps) ≡ some x → loadKeys l .act i c ps ≡ refuse x
+act-refuses : (l : KeyList) (i : ℕ) (c : Controller) (ps : Octets) (x : Reason) → firstOf (checksOf l c ps) ≡ some x → act (loadKeys l) i c ps ≡ refuse x
 unfolding loadKeys unless
 act-refuses l i c ps x e = rw e
 
 -- a list whose checks all pass is loaded: no return parameters, no events, the table's old records gone
 act-loads : (l : KeyList) (i : ℕ) (c : Controller) (ps : Octets) → firstOf (checksOf l c ps) ≡ none
-    → loadKeys l .act i c ps ≡ done [] [] (withTable (c .host) (l .table) (loaded (recordsOf l ps)))
+    → act (loadKeys l) i c ps ≡ done [] [] (withTable (c .host) (l .table) (loaded (recordsOf l ps)))
 unfolding loadKeys unless
 act-loads l i c ps e = rw e
 
@@ -188,7 +206,7 @@ module _ (s : Octets) (i code k at n : ℕ) (valid : Bool) (ps d d′ : Octets) 
   unfolding statusOf
   count-refuses h m w =
       refuses Statuses.noResources (record {
-        reason = countAbove32;
+        reason = CountAbove32;
         first = count-fails (keyList k) (here .radio .hardware) ps
             (u16 ps (keyList k .countAt)) (recordsOf (keyList k) ps) (rw count-is h);
         told = refl;
@@ -243,17 +261,19 @@ module _ (s : Octets) (i code k at n : ℕ) (valid : Bool) (ps d d′ : Octets) 
 
     -- all checks pass: the list is in its table, and the answer is Command Complete
     pub list-loads : q ≡ true → (s′ : Octets) (place size : ℕ) → place ≡ tablePlace i k → size ≡ ruleAt k .size
-        → s′ ≡ writeAt s place (region size (loaded (chop size n (drop (at + 2) ps)))) → r ≡ Done 9 → d′ ≡ writeAt d 0 (commandComplete i code 0 (part ps 0 0))
+        → s′ ≡ writeAt s place (region size (loaded (chop size n (drop (at + 2) ps)))) → r ≡ Done 9 → d′ ≡ writeAt d 0
+        (commandComplete i code 0 (part ps 0 0))
         → Gives (immediateCommand s i code ps (loadKeys (keyList k))) r d d′ s′
     list-loads o s′ place size ep ez es m w =
         let a = act-loads (keyList k) i here ps (past ∙ passes-none (keyList k .rule .support (here .radio .hardware)) (support-is ∙ o)) in
-        let b : loadKeys (keyList k) .act i here ps ≡ done [] [] (withTable (here .host) k (loaded list)) = a
+        let b : act (loadKeys (keyList k)) i here ps ≡ done [] [] (withTable (here .host) k (loaded list)) = a
         ∙ rw (records-are, table-is k (g .least) (g .most)) in
         let long : length (loaded list) ≡ 32 = length-loaded list (rw (length-chop (ruleAt k .size) n (drop (at + 2) ps)) h) in
         let inside = list-inside k at n valid ps g en in
         let st : s′ ≡ encode (putController (decode s) i (withHost here (withTable (here .host) k (loaded list)))) =
         es ∙ rw (ep, ez) (table-stored s i given k (omega (arith, g .most)) (loaded list) long (sized-loaded (ruleAt k .size) n ps (at + 2) inside)) in
-        immediate-done s i code ps (loadKeys (keyList k)) d d′ r given big (list-sized k at valid ps g) s′ [] [] (withTable (here .host) k (loaded list)) 9 b m
+        immediate-done s i code ps (loadKeys (keyList k)) d d′ r given big (list-sized k at valid ps g) s′ [] []
+        (withTable (here .host) k (loaded list)) 9 b m
         (rw append-nil (length-complete i code 0 [])) (omega arith) (w ∙ rw (no-parameters i code ps)) st
 
 -- 5. The three commands ---------------------------------------------------------------------------------------------------------------------------------
@@ -268,11 +288,11 @@ list-wrong s i code k at size fits ps d d′ r g big ea ez e f m w =
     immediate-length s i code ps (loadKeys (keyList k)) d d′ r g big (rw (ea, ez) (sym e ∙ f)) m w
 
 -- the debug flag is 0 or 1
-debug-is : (v : ℕ) → leb v 1 ≡ passes ((refusedIf (ltb 1 v) debugFlagAbove1) ∷ [])
+debug-is : (v : ℕ) → leb v 1 ≡ passes ((refusedAt 0 (ltb 1 v) DebugFlagAbove1) ∷ [])
 unfolding passes firstOf noReason
 debug-is v = go (ltb 1 v) refl
   where
-    go : (b : Bool) → ltb 1 v ≡ b → leb v 1 ≡ noReason (elim b [ true ↦ some debugFlagAbove1 | false ↦ none ])
+    go : (b : Bool) → ltb 1 v ≡ b → leb v 1 ≡ noReason (elim b [ true ↦ some DebugFlagAbove1 | false ↦ none ])
     go true e = lt-leb v 1 (ltb-true 1 v e)
     go false e = le-leb v 1 (ltb-false 1 v e)
 

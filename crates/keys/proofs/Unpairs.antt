@@ -15,10 +15,12 @@ use Rattle.model.specs.Lengths as Lengths
 use Rattle.model.specs.declared.Settings.{Settings}
 use Rattle.model.specs.Octets.{Octets, octet, event, commandComplete, commandStatus}
 use Rattle.model.specs.State.{Controller, Host, Hub, Table, settingsOf, tableOf, withController, withHost, withTable}
-use Rattle.model.specs.Reasons.{Reason, refusedIf, firstOf, statusOf, addressTypeAbove2, disconnectAbove1, unpowered, notPaired}
+use Rattle.model.specs.Reasons.{refusedAt, refusedIf, firstOf, statusOf}
+use Rattle.model.specs.declared.Reason.{Reason}
+use Rattle.model.specs.declared.Reason.the-variants.{AddressTypeAbove2, DisconnectAbove1, Unpowered, NoKeyOfDevice}
 use Rattle.model.specs.Tables.{begins, freed, holds}
-use Rattle.model.specs.Rules.{refuse, done}
-use Rattle.model.specs.Immediate.{unless, sized, anyKey, unpaired, unpairDevice}
+use Rattle.model.specs.Rules.{refuse, done, act, unless}
+use Rattle.model.specs.Immediate.{sized, anyKey, unpaired, unpairDevice}
 use Rattle.model.specs.WellFormed.{controllerOk}
 use Rattle.model.specs.Layout.{decode, encode, region}
 use Rattle.model.specs.Proof.Parts.{table-changed}
@@ -93,7 +95,8 @@ unfolding anyKey
 any-first m h a e t = sym (rw (sym e ∙ t))
 
 -- the same, of the second where the first has none
-pub any-second : (m : Octets → Bool) (h : Host) (a b : Bool) → a ≡ holds m (tableOf h 1) → a ≡ false → b ≡ holds m (tableOf h 2) → b ≡ true → true ≡ anyKey m h
+pub any-second : (m : Octets → Bool) (h : Host) (a b : Bool) → a ≡ holds m (tableOf h 1) → a ≡ false → b ≡ holds m (tableOf h 2) → b ≡ true
+    → true ≡ anyKey m h
 unfolding anyKey
 any-second m h a b e f g t = sym (rw (sym e ∙ f, sym g ∙ t))
 
@@ -146,8 +149,9 @@ unpaired-reply d i ps b e l eb ee =
 -- the model's rule, by its four tests
 unpair-act : (i : ℕ) (c : Controller) (ps : Octets) (a b p k : Bool) → ltb 2 (octet ps 6) ≡ a → ltb 1 (octet ps 7) ≡ b → c .radio .powered ≡ p
     → anyKey (begins 7 ps) (c .host) ≡ k
-    → unpairDevice .act i c ps
-    ≡ unless (firstOf ((refusedIf a addressTypeAbove2) ∷ (refusedIf b disconnectAbove1) ∷ (refusedIf (not p) unpowered) ∷ (refusedIf (not k) notPaired) ∷ []))
+    → act unpairDevice i c ps
+    ≡ unless (firstOf ((refusedAt 6 a AddressTypeAbove2) ∷ (refusedAt 7 b DisconnectAbove1) ∷ (refusedIf (not p) Unpowered) ∷
+    (refusedIf (not k) NoKeyOfDevice) ∷ []))
     (done (take 7 ps) (event Events.deviceUnpaired i (take 7 ps)) (unpaired (begins 7 ps) (c .host)))
 unfolding unpairDevice
 unpair-act i c ps a b p k ea eb ep ek = rw (← ea, ← eb, ← ep, ← ek)
@@ -166,7 +170,7 @@ module _ (s : Octets) (i : ℕ) (ps d d′ : Octets) (r : Answer) (g : Ready s i
     sized-eight = eq-eqb (length ps) 8 eight
 
     -- where the model refuses, the answer is Command Complete with the status, the address and its type, and the state stays
-    refuses : (x : Reason) → unpairDevice .act i (controllerOf s i) ps ≡ refuse x → r ≡ Refused 16
+    refuses : (x : Reason) → act unpairDevice i (controllerOf s i) ps ≡ refuse x → r ≡ Refused 16
         → d′ ≡ writeAt d 0 (commandComplete i Codes.unpairDevice (statusOf x) (take 7 ps))
         → Gives (immediateCommand s i Codes.unpairDevice ps unpairDevice) r d d′ s
     unfolding unpairDevice
@@ -177,7 +181,7 @@ module _ (s : Octets) (i : ℕ) (ps d d′ : Octets) (r : Answer) (g : Ready s i
         → d′ ≡ writeAt d 0 (commandComplete i Codes.unpairDevice Statuses.invalidParameters (take 7 ps))
         → Gives (immediateCommand s i Codes.unpairDevice ps unpairDevice) r d d′ s
     unfolding octet firstOf unless statusOf
-    type-refuses h m w = refuses addressTypeAbove2 (unpair-act i (controllerOf s i) ps true _ _ _ (lt-ltb 2 (getD ps 6 0) h) refl refl refl) m w
+    type-refuses h m w = refuses AddressTypeAbove2 (unpair-act i (controllerOf s i) ps true _ _ _ (lt-ltb 2 (getD ps 6 0) h) refl refl refl) m w
 
     module _ (t : getD ps 6 0 ≤ 2) where
       -- a disconnect octet above 1: Invalid Parameters
@@ -186,7 +190,7 @@ module _ (s : Octets) (i : ℕ) (ps d d′ : Octets) (r : Answer) (g : Ready s i
           → Gives (immediateCommand s i Codes.unpairDevice ps unpairDevice) r d d′ s
       unfolding octet firstOf unless statusOf
       disconnect-refuses h m w =
-          refuses disconnectAbove1 (unpair-act i (controllerOf s i) ps false true _ _ (le-ltb 2 (getD ps 6 0) t) (lt-ltb 1 (getD ps 7 0) h) refl refl) m w
+          refuses DisconnectAbove1 (unpair-act i (controllerOf s i) ps false true _ _ (le-ltb 2 (getD ps 6 0) t) (lt-ltb 1 (getD ps 7 0) h) refl refl) m w
 
       module _ (u : getD ps 7 0 ≤ 1) (o : Settings) (eo : o ≡ settingsOf (controllerOf s i)) where
         -- the settings that were read tell whether the controller is powered
@@ -200,7 +204,7 @@ module _ (s : Octets) (i : ℕ) (ps d d′ : Octets) (r : Answer) (g : Ready s i
             → Gives (immediateCommand s i Codes.unpairDevice ps unpairDevice) r d d′ s
         unfolding octet firstOf unless statusOf
         power-refuses h m w =
-            refuses unpowered (unpair-act i (controllerOf s i) ps false false false _ (le-ltb 2 (getD ps 6 0) t) (le-ltb 1 (getD ps 7 0) u)
+            refuses Unpowered (unpair-act i (controllerOf s i) ps false false false _ (le-ltb 2 (getD ps 6 0) t) (le-ltb 1 (getD ps 7 0) u)
             (sym power-is ∙ h) refl) m w
 
         module _ (p : o .radio .powered ≡ true) (k : Bool) (ek : k ≡ anyKey (begins 7 ps) (controllerOf s i .host)) where
@@ -209,7 +213,7 @@ module _ (s : Octets) (i : ℕ) (ps d d′ : Octets) (r : Answer) (g : Ready s i
               → Gives (immediateCommand s i Codes.unpairDevice ps unpairDevice) r d d′ s
           unfolding octet firstOf unless statusOf
           pair-refuses h m w =
-              refuses notPaired (unpair-act i (controllerOf s i) ps false false true false (le-ltb 2 (getD ps 6 0) t) (le-ltb 1 (getD ps 7 0) u)
+              refuses NoKeyOfDevice (unpair-act i (controllerOf s i) ps false false true false (le-ltb 2 (getD ps 6 0) t) (le-ltb 1 (getD ps 7 0) u)
               (sym power-is ∙ p) (sym ek ∙ h)) m w
 
           -- there is one: all such keys are gone from the three tables, and the reply is Command Complete and Device Unpaired
@@ -223,6 +227,11 @@ module _ (s : Octets) (i : ℕ) (ps d d′ : Octets) (r : Answer) (g : Ready s i
               (sym power-is ∙ p) (sym ek ∙ h) in
               let n7 : length (take 7 ps) ≡ 7 = length-take-le 7 ps (omega arith) in
               let n : length (commandComplete i Codes.unpairDevice 0 (take 7 ps) ++ event Events.deviceUnpaired i (take 7 ps)) ≡ 29 =
-              simp (length-append) (omega (arith, length-complete i Codes.unpairDevice 0 (take 7 ps), length-event Events.deviceUnpaired i (take 7 ps) 7 n7)) in
+              simp (length-append) (omega (
+                arith,
+                length-complete i Codes.unpairDevice 0 (take 7 ps),
+                length-event Events.deviceUnpaired i
+                    (take 7 ps) 7 n7,
+              )) in
               immediate-done s i Codes.unpairDevice ps unpairDevice d d′ r g big sized-eight s′ (take 7 ps) (event Events.deviceUnpaired i (take 7 ps))
               (unpaired (begins 7 ps) (controllerOf s i .host)) 29 a m n (omega arith) w es

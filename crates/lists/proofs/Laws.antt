@@ -13,7 +13,6 @@ use borrow.Author.Tests.{eq-eqb, ne-eqb}
 use Rattle.model.specs.Octets.{Octets}
 use Rattle.model.specs.Reasons.{passes}
 use Rattle.model.specs.Tables.{TableRule, blockedRule, chop, deviceRule, distinct, identityKeyRule, linkKeyRule, longTermKeyRule, tableRules}
-use Rattle.model.specs.Immediate.{recordChecks}
 use Rattle.model.specs.Tables.{ruleAt}
 use Rattle.model.specs.Proof.Tables.{bytes-drop, length-chop, slice-bytes}
 use Rattle.model.specs.Proof.Tests.{no-way}
@@ -23,14 +22,14 @@ use Rattle.records.specs.Identities.{among, apart, identityOf, sameIdentity, wo
 use Rattle.records.specs.declared.Identity.{Identity}
 use Rattle.records.proofs.Identities.{apart-told, whole-chop}
 use Rattle.records.proofs.Laws.{passes-append, passes-cons, passes-none}
-use Rattle.lists.specs.Lists.{KeysRead, keyAt, keyIdentity, keyOf, lowWords, valueChecks}
+use Rattle.lists.specs.Lists.{KeysRead, keyAt, keyIdentity, keyOf, lowWords, eachChecks, valueChecks}
 use Rattle.lists.specs.declared.Key.{Key}
 
 -- 1. From record to record ------------------------------------------------------------------------------------------------------------------------
 
 -- whether each of n records of table k from a place on passes its checks
 abbrev pub keptFrom : ℕ → Octets → ℕ → ℕ → Bool
-keptFrom k s at n = passes (recordChecks (ruleAt k) (chop (ruleAt k .size) n (drop at s)))
+keptFrom k s at n = passes (eachChecks (ruleAt k) (chop (ruleAt k .size) n (drop at s)))
 
 -- the low words of their identities
 abbrev pub wordsFrom : ℕ → Octets → ℕ → ℕ → List ℕ
@@ -38,7 +37,7 @@ wordsFrom k s at n = lowWords k (chop (ruleAt k .size) n (drop at s))
 
 -- no record is left
 kept-end : (k : ℕ) (s : Octets) (at n : ℕ) → n ≤ 0 → keptFrom k s at n ≡ true
-unfolding chop recordChecks
+unfolding chop eachChecks
 kept-end k s at n l = let e : n ≡ 0 = omega arith in rw (e, passes-none)
 
 -- and no word
@@ -49,7 +48,7 @@ words-end k s at n l = let e : n ≡ 0 = omega arith in rw e
 -- the record at a place, and the rest
 kept-cons : (k : ℕ) (s : Octets) (at n : ℕ) → 0 < n
     → keptFrom k s at n ≡ passes (ruleAt k .checks (part s at (ruleAt k .size))) && keptFrom k s (at + ruleAt k .size) (n - 1)
-unfolding chop recordChecks part
+unfolding chop eachChecks part
 kept-cons k s at zero l = absurd (omega arith)
 kept-cons k s at (suc n) l = let e : suc n - 1 ≡ n = omega arith in rw (e, passes-append, drop-drop (ruleAt k .size) at s)
 
@@ -145,9 +144,9 @@ module _ (k : ℕ) (s : Octets) (from n i : ℕ) (l : List ℕ) (h : Reached k s
 -- 3. The values of a list -------------------------------------------------------------------------------------------------------------------------
 
 -- whether each record passes, and no two have one identity
-values-are : (u : TableRule) (rs : List Octets) → passes (valueChecks u rs) ≡ passes (recordChecks u rs) && distinct (map (u .key) rs)
+values-are : (u : TableRule) (rs : List Octets) → passes (valueChecks u rs) ≡ passes (eachChecks u rs) && distinct (map (u .key) rs)
 unfolding valueChecks
-values-are u rs = rw (passes-append (recordChecks u rs), passes-cons, passes-none) (go (passes (recordChecks u rs)) (distinct (map (u .key) rs)))
+values-are u rs = rw (passes-append (eachChecks u rs), passes-cons, passes-none) (go (passes (eachChecks u rs)) (distinct (map (u .key) rs)))
   where
     go : (a b : Bool) → a && (not (not b) && true) ≡ a && b
     go a true = refl

@@ -5,9 +5,9 @@ use mathlib.Core.Bool.{Bool, true, not}
 use mathlib.Core.List.{List, [], _∷_, _++_, map}
 use lib.ListN.{length, take}
 use Rattle.model.specs.Octets.{Octets}
-use Rattle.model.specs.Reasons.{Check, refusedIf, passes, recordRepeated}
+use Rattle.model.specs.Reasons.{Check, refusedIf, passes}
+use Rattle.model.specs.declared.Reason.the-variants.{RecordRepeated}
 use Rattle.model.specs.Tables.{TableRule, distinct}
-use Rattle.model.specs.Immediate.{recordChecks}
 use Rattle.model.specs.Tables.{ruleAt}
 use Rattle.octets.specs.Parts.{part}
 use Rattle.records.specs.declared.Identity.{Identity}
@@ -22,9 +22,15 @@ keyOf k r = record { identity = identityOf k r; keepsRule = passes (ruleAt k .ch
 unfoldable pub keyAt : Octets → ℕ → ℕ → Key
 keyAt packet at k = keyOf k (part packet at (ruleAt k .size))
 
--- the values of a list's records: each record's own, and that none is repeated
+-- the checks of each record, record after record, with their places in the record
+unfoldable pub eachChecks : TableRule → List Octets → List Check
+eachChecks u [] = []
+eachChecks u (r ∷ rs) = u .checks r ++ eachChecks u rs
+
+-- the values of a list's records: each record's own, and that none is repeated. Whether they pass is all that is asked of them, so where they fail is left out
+-- (`Loads` in keys/proofs ties them to the model's).
 unfoldable pub valueChecks : TableRule → List Octets → List Check
-valueChecks u rs = recordChecks u rs ++ ((refusedIf (not (distinct (map (u .key) rs))) recordRepeated) ∷ [])
+valueChecks u rs = eachChecks u rs ++ ((refusedIf (not (distinct (map (u .key) rs))) RecordRepeated) ∷ [])
 
 -- the low words of the identities of records of table k: of a key its whole identity
 unfoldable pub lowWords : ℕ → List Octets → List ℕ
@@ -37,6 +43,6 @@ keyIdentity w = record { low = w; high = 0 }
 
 -- what is known of the records of a list that was gone through: whether each of them passes its checks, and if so, in `low`, their identities
 pub record KeysRead (k : ℕ) (rs : List Octets) (kept : Bool) (low : List ℕ) : Type 0 where
-  pub told : kept ≡ passes (recordChecks (ruleAt k) rs)
+  pub told : kept ≡ passes (eachChecks (ruleAt k) rs)
   pub words : kept ≡ true → take (length rs) low ≡ lowWords k rs
   pub long : length low ≡ 32

@@ -6,7 +6,9 @@ pub mod EveryRow
 pub mod Invariant
 pub mod Commute
 pub mod Tables
+pub mod Pairs
 pub mod Parts
+pub mod Places
 pub mod Rows
 pub mod Stays
 pub mod Load

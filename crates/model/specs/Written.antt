@@ -10,7 +10,7 @@ use Rattle.model.specs.Statuses as Statuses
 use Rattle.model.specs.Codes as Codes
 use Rattle.model.specs.Octets.{Octets, commandComplete, commandStatus}
 use Rattle.model.specs.Answers.{numberOf, Done, Started, Refused, BadPacket, SmallBuffer, BadState, BadArgument, BadImage}
-use Rattle.model.specs.Reasons.{Reason, statusOf, codeUnknown, controllerAbsent, indexNotNone, lengthWrong}
+use Rattle.model.specs.Reasons.{Reason, statusOf, CodeUnknown, ControllerAbsent, IndexNotNone, LengthWrong}
 use Rattle.model.specs.Hub.{Call, command, report, clock, plug, unplug, save, codeOf, indexOf, paramsOf}
 
 -- the octets of reply buffer that a call asks for, whatever it will write (01, What a call answers, 4)
@@ -42,10 +42,10 @@ busyCommand code =
 
 -- the reasons that stand before all others: code, index, length of the parameters (01, Order inside a command)
 pub data UpToLength : Reason → Type 0 where
-  unknownCode : UpToLength codeUnknown
-  wrongIndex : UpToLength indexNotNone
-  noController : UpToLength controllerAbsent
-  wrongLength : UpToLength lengthWrong
+  unknownCode : UpToLength CodeUnknown
+  wrongIndex : UpToLength IndexNotNone
+  noController : UpToLength ControllerAbsent
+  wrongLength : UpToLength LengthWrong
 
 -- The one reply to a refused command, with the code and index of its packet (01, Order inside a command).
 pub data StatusReply (packet : Octets) : Octets → Type 0 where

@@ -12,8 +12,10 @@ use Rattle.model.specs.Lengths as Lengths
 use Rattle.model.specs.Octets.{Octets, commandComplete, commandStatus, le32}
 use Rattle.model.specs.Advertising.{advertisingRemoved}
 use Rattle.model.specs.State.{Controller, Host, PlainHub, OpenCommand, withController, withHost, currentSettings, settingsOf}
-use Rattle.model.specs.Reasons.{Reason, statusOf, firstOf, lengthWrong}
-use Rattle.model.specs.Rules.{refuse, done, ImmediateRule, RadioRule, newSettings}
+use Rattle.model.specs.Reasons.{statusOf, firstOf}
+use Rattle.model.specs.declared.Reason.{Reason}
+use Rattle.model.specs.declared.Reason.the-variants.{LengthWrong}
+use Rattle.model.specs.Rules.{refuse, done, ImmediateRule, RadioRule, newSettings, act}
 use Rattle.model.specs.Hub.{Outcome, finished, refused, anyway, keep, withOpen, answerOf, octetsOf, stateOf, refusalOctets, byStatus, busyOr}
 use Rattle.model.specs.Hub.{commandOut, refusalForm, immediateAt, immediateDone, radioAt, radioBeforeBusy, radioAfterBusy, acted}
 use Rattle.model.specs.Layout.{encode, decode}
@@ -56,13 +58,13 @@ ends-done s out p n d d′ s′ r m e l w k = rw m (record { answer = refl; coun
 
 -- parameters of the right length: the rule's own act decides
 at-good : (p : PlainHub) (i code : ℕ) (ps : Octets) (q : ImmediateRule) (c : Controller) → q .size ps ≡ true
-    → immediateAt p i code ps q (some c) ≡ immediateDone p i code ps (q .byAddress) c (q .act i c ps)
+    → immediateAt p i code ps q (some c) ≡ immediateDone p i code ps (q .byAddress) c (act q i c ps)
 unfolding immediateAt
 at-good p i code ps q c e = rw (e, immediateAt)
 
 -- parameters of another length: refused by Command Status, even of an address command
 at-length : (p : PlainHub) (i code : ℕ) (ps : Octets) (q : ImmediateRule) (c : Controller) → q .size ps ≡ false
-    → immediateAt p i code ps q (some c) ≡ refused (byStatus i code) lengthWrong
+    → immediateAt p i code ps q (some c) ≡ refused (byStatus i code) LengthWrong
 unfolding immediateAt
 at-length p i code ps q c e = rw (e, immediateAt)
 
@@ -76,16 +78,16 @@ module _ (s : Octets) (i code : ℕ) (ps : Octets) (q : ImmediateRule) (d d′ :
   pub immediate-length : q .size ps ≡ false → r ≡ Refused 9 → d′ ≡ writeAt d 0 (commandStatus i code Statuses.invalidParameters)
       → Gives (immediateCommand s i code ps q) r d d′ s
   unfolding immediateCommand statusOf
-  immediate-length e n w = rw (at-length (decode s .plain) i code ps q (controllerOf s i) e) (ends-refused s i code lengthWrong d d′ r (given .ok) big n w)
+  immediate-length e n w = rw (at-length (decode s .plain) i code ps q (controllerOf s i) e) (ends-refused s i code LengthWrong d d′ r (given .ok) big n w)
 
   -- refused by Command Status
-  pub immediate-status : q .size ps ≡ true → (x : Reason) → q .byAddress ≡ false → q .act i (controllerOf s i) ps ≡ refuse x → r ≡ Refused 9
+  pub immediate-status : q .size ps ≡ true → (x : Reason) → q .byAddress ≡ false → act q i (controllerOf s i) ps ≡ refuse x → r ≡ Refused 9
       → d′ ≡ writeAt d 0 (commandStatus i code (statusOf x)) → Gives (immediateCommand s i code ps q) r d d′ s
   unfolding immediateCommand immediateDone refusalForm
   immediate-status z x a e n w = rw (at-good (decode s .plain) i code ps q (controllerOf s i) z, a, e) (ends-refused s i code x d d′ r (given .ok) big n w)
 
   -- refused by Command Complete with the address and type
-  pub immediate-address : q .size ps ≡ true → (x : Reason) → q .byAddress ≡ true → 7 ≤ length ps → q .act i (controllerOf s i) ps ≡ refuse x → r ≡ Refused 16
+  pub immediate-address : q .size ps ≡ true → (x : Reason) → q .byAddress ≡ true → 7 ≤ length ps → act q i (controllerOf s i) ps ≡ refuse x → r ≡ Refused 16
       → d′ ≡ writeAt d 0 (commandComplete i code (statusOf x) (take 7 ps)) → Gives (immediateCommand s i code ps q) r d d′ s
   unfolding immediateCommand immediateDone refusalForm ended laidOut keep answerOf octetsOf stateOf refusalOctets
   immediate-address z x a seven e n w =
@@ -100,7 +102,7 @@ module _ (s : Octets) (i code : ℕ) (ps : Octets) (q : ImmediateRule) (d d′ :
       })
 
   -- done
-  pub immediate-done : q .size ps ≡ true → (s′ out evs : Octets) (h : Host) (n : ℕ) → q .act i (controllerOf s i) ps ≡ done out evs h → r ≡ Done n
+  pub immediate-done : q .size ps ≡ true → (s′ out evs : Octets) (h : Host) (n : ℕ) → act q i (controllerOf s i) ps ≡ done out evs h → r ≡ Done n
       → length (commandComplete i code 0 out ++ evs) ≡ n → n ≤ Lengths.replyBuffer → d′ ≡ writeAt d 0 (commandComplete i code 0 out ++ evs)
       → s′ ≡ encode (putController (decode s) i (withHost (controllerOf s i) h)) → Gives (immediateCommand s i code ps q) r d d′ s′
   unfolding immediateCommand immediateDone putController
@@ -113,7 +115,7 @@ module _ (s : Octets) (i code : ℕ) (ps : Octets) (q : ImmediateRule) (d d′ :
 
 -- parameters of another length are refused, whatever is under way
 length-wrong : (p : PlainHub) (i code : ℕ) (ps : Octets) (r : RadioRule) (c : Controller) → eqb (length ps) (r .size) ≡ false
-    → radioAt p i code ps r (some c) ≡ anyway (refused (byStatus i code) lengthWrong)
+    → radioAt p i code ps r (some c) ≡ anyway (refused (byStatus i code) LengthWrong)
 unfolding radioAt
 length-wrong p i code ps r c e = rw (e, radioAt)
 
@@ -132,7 +134,7 @@ module _ (s : Octets) (i code : ℕ) (ps : Octets) (u : RadioRule) (d d′ : Oct
   pub radio-length : eqb (length ps) (u .size) ≡ false → r ≡ Refused 9 → d′ ≡ writeAt d 0 (commandStatus i code Statuses.invalidParameters)
       → Gives (radioCommand s i code ps u) r d d′ s
   unfolding radioCommand commandOut busyOr statusOf ended
-  radio-length e n w = rw (length-wrong (decode s .plain) i code ps u (controllerOf s i) e) (ends-refused s i code lengthWrong d d′ r (given .ok) big n w)
+  radio-length e n w = rw (length-wrong (decode s .plain) i code ps u (controllerOf s i) e) (ends-refused s i code LengthWrong d d′ r (given .ok) big n w)
 
   -- refused before Busy
   pub radio-early : eqb (length ps) (u .size) ≡ true → (x : Reason) → firstOf (u .beforeBusy (here .radio) ps) ≡ some x → r ≡ Refused 9

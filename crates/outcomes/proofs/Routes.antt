@@ -8,7 +8,7 @@ use Rattle.model.specs.Lengths as Lengths
 use Rattle.model.specs.Octets.{Octets}
 use Rattle.model.specs.State.{PlainHub, controllerAt}
 use Rattle.model.specs.declared.Hardware.{Hardware}
-use Rattle.model.specs.Reasons.{codeUnknown, controllerAbsent}
+use Rattle.model.specs.declared.Reason.the-variants.{CodeUnknown, ControllerAbsent}
 use Rattle.model.specs.Rules.{ImmediateRule, RadioRule, immediate, radio}
 use Rattle.model.specs.Rules.{general as generalRule}
 use Rattle.model.specs.Commands.{rule}
@@ -48,7 +48,8 @@ unfolding verdict
 verdict-good p room packet l e = rw (le-ltb room Lengths.replyBuffer l, verdict, e)
 
 -- a reply buffer that is too short, a packet that is not whole, and the way on
-pub command-small : (s : Octets) (room : ℕ) (packet : Octets) → stateOk s ≡ true → room < Lengths.replyBuffer → meaning s (command room packet) ≡ ended s noRoom
+pub command-small : (s : Octets) (room : ℕ) (packet : Octets) → stateOk s ≡ true → room < Lengths.replyBuffer → meaning s
+    (command room packet) ≡ ended s noRoom
 unfolding call commandOut ended
 command-small s room packet ok l = rw (meaning-well s (command room packet) ok, verdict-small (decode s .plain) room packet l)
 
@@ -66,7 +67,7 @@ command-whole s room packet ok l e =
     rw (meaning-well s (command room packet) ok, verdict-good (decode s .plain) room packet l e)
 
 -- by the rule of the code
-pub route-unknown : (s : Octets) (i code : ℕ) (ps : Octets) → rule code ≡ none → anyCommand s i code ps ≡ ended s (refused (byStatus i code) codeUnknown)
+pub route-unknown : (s : Octets) (i code : ℕ) (ps : Octets) → rule code ≡ none → anyCommand s i code ps ≡ ended s (refused (byStatus i code) CodeUnknown)
 unfolding anyCommand byRule commandOut ended
 route-unknown s i code ps e = rw e
 
@@ -83,7 +84,7 @@ module _ (s : Octets) (i code : ℕ) (ps : Octets) (q : ImmediateRule) (known : 
   route-immediate g = rw (known, present-controller s i g)
 
   -- to an absent index it is Invalid Index
-  pub route-immediate-absent : presentAt s i ≡ false → anyCommand s i code ps ≡ ended s (refused (byStatus i code) controllerAbsent)
+  pub route-immediate-absent : presentAt s i ≡ false → anyCommand s i code ps ≡ ended s (refused (byStatus i code) ControllerAbsent)
   unfolding anyCommand byRule commandOut immediateAt ended
   route-immediate-absent e = rw (known, absent-controller s i e)
 
@@ -94,7 +95,7 @@ module _ (s : Octets) (i code : ℕ) (ps : Octets) (r : RadioRule) (known : rule
   route-radio g = rw (known, present-controller s i g)
 
   -- to an absent index it too is Invalid Index
-  pub route-radio-absent : presentAt s i ≡ false → anyCommand s i code ps ≡ ended s (refused (byStatus i code) controllerAbsent)
+  pub route-radio-absent : presentAt s i ≡ false → anyCommand s i code ps ≡ ended s (refused (byStatus i code) ControllerAbsent)
   unfolding anyCommand byRule commandOut radioAt ended
   route-radio-absent e = rw (known, absent-controller s i e)
 

@@ -11,7 +11,8 @@ use borrow.Author.Tests.{eq-eqb}
 use Rattle.model.specs.Octets.{Octets, commandStatus}
 use Rattle.model.specs.State.{Controller, Hub}
 use Rattle.model.specs.Answers.{countOf, numberOf}
-use Rattle.model.specs.Reasons.{Reason, firstOf}
+use Rattle.model.specs.Reasons.{firstOf}
+use Rattle.model.specs.declared.Reason.{Reason}
 use Rattle.model.specs.Rules.{RadioRule}
 use Rattle.model.specs.Hub.{Result, Verdict, acted, answerOf, busyOr, byStatus, commandOut, keep, octetsOf, radioAfterBusy, radioAt}
 use Rattle.model.specs.Hub.{radioBeforeBusy, refusalOctets}

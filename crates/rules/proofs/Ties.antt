@@ -16,7 +16,8 @@ use Rattle.model.specs.declared.Schedule.{Schedule}
 use Rattle.model.specs.declared.Settings.{Settings}
 use Rattle.model.specs.State.{Host, Controller, noTimer, settingsOf, withHost, withTimer, withBondable, withPowered, withConnectable, withLowEnergy}
 use Rattle.model.specs.State.{withAdvertising, withSchedule, withStaticAddress}
-use Rattle.model.specs.Reasons.{Reason, Check, firstOf, noReason, passes, statusOf}
+use Rattle.model.specs.Reasons.{Check, firstOf, noReason, passes, statusOf}
+use Rattle.model.specs.declared.Reason.{Reason}
 use Rattle.model.specs.Rules.{RadioRule, radio, on, setPowered, setDiscoverable, setConnectable, setLowEnergy, setStaticAddress}
 use Rattle.model.specs.Hub.{startsBy, countdown, tick}
 use Rattle.model.specs.WellFormed.{advertisingOk, controllerOk, timerOk}

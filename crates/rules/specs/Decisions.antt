@@ -10,7 +10,8 @@ use Rattle.model.specs.declared.Settings.{Settings}
 use Rattle.model.specs.Answers.{numberOf}
 use Rattle.model.specs.declared.Answer.{Answer}
 use Rattle.model.specs.declared.Answer.the-variants.{Done, Started, Refused}
-use Rattle.model.specs.Reasons.{Reason, statusOf, firstOf}
+use Rattle.model.specs.Reasons.{statusOf, firstOf}
+use Rattle.model.specs.declared.Reason.{Reason}
 use Rattle.model.specs.Rules.{RadioRule}
 use Rattle.model.specs.WellFormed.{addressed, settingsFit}
 use Rattle.rules.specs.declared.Decision.{Decision}

@@ -29,7 +29,7 @@ pub enum Decision {
 // Tests
 
 // Whether both hold.
-fn both(a: bool, b: bool) -> bool
+pub fn both(a: bool, b: bool) -> bool
     ensures { λ r. ⌜ r ≡ (a && b) ⌝ }
 {
     if a {
@@ -39,7 +39,7 @@ fn both(a: bool, b: bool) -> bool
 }
 
 // Whether one of the two holds, or both.
-fn either(a: bool, b: bool) -> bool
+pub fn either(a: bool, b: bool) -> bool
     ensures { λ r. ⌜ r ≡ (a || b) ⌝ }
 {
     if a {
@@ -49,14 +49,14 @@ fn either(a: bool, b: bool) -> bool
 }
 
 // Whether the hardware has BR/EDR.
-fn bredr_supported(f: Hardware) -> bool
+pub fn bredr_supported(f: Hardware) -> bool
     ensures { λ r. ⌜ r ≡ State.bredrSupported f ⌝ }
 {
     f.supported / 128 % 2 == 1
 }
 
 // Whether the hardware has Low Energy.
-fn le_supported(f: Hardware) -> bool
+pub fn le_supported(f: Hardware) -> bool
     ensures { λ r. ⌜ r ≡ State.leSupported f ⌝ }
 {
     f.supported / 512 % 2 == 1
@@ -76,7 +76,7 @@ pub fn static_random(s: &[u8], at: usize) -> bool
 }
 
 // Whether an address is zero or static random.
-fn static_address_ok(a: &[u8]) -> bool
+pub fn static_address_ok(a: &[u8]) -> bool
     requires { ⌜ 6 ≤ length (now a) ⌝ }
     ensures { λ r. ⌜ r ≡ State.staticAddressOk (now (a .entry)) ⌝ }
 {
@@ -87,7 +87,7 @@ fn static_address_ok(a: &[u8]) -> bool
 }
 
 // Whether there is a public or a static address.
-fn addressed(r: RadioSettings) -> bool
+pub fn addressed(r: RadioSettings) -> bool
     ensures { λ q. ⌜ q ≡ WellFormed.addressed r ⌝ }
 {
     let f = r.hardware;

@@ -17,9 +17,11 @@ use Rattle.model.specs.declared.RadioSettings.{RadioSettings}
 use Rattle.model.specs.Octets.{Octets, octet, u16, le32, commandComplete, commandStatus}
 use Rattle.model.specs.Advertising.{advertisingRemoved}
 use Rattle.model.specs.State.{Controller, currentSettings, settingsOf, withHost, withBondable}
-use Rattle.model.specs.Reasons.{valueAbove1, statusOf, firstOf}
-use Rattle.model.specs.Rules.{refuse, done, RadioRule, on, newSettings, setPowered, setDiscoverable, setConnectable, setLowEnergy, setStaticAddress}
-use Rattle.model.specs.Immediate.{setBondable, sized, unless}
+use Rattle.model.specs.Reasons.{statusOf, firstOf}
+use Rattle.model.specs.declared.Reason.the-variants.{ValueAbove1}
+use Rattle.model.specs.Rules.{refuse, done, RadioRule, on, newSettings, setPowered, setDiscoverable, setConnectable, setLowEnergy, setStaticAddress, act}
+use Rattle.model.specs.Rules.{unless}
+use Rattle.model.specs.Immediate.{setBondable, sized}
 use Rattle.model.specs.Hub.{withOpen}
 use Rattle.model.specs.WellFormed.{controllerOk}
 use Rattle.model.specs.Layout.{encode, decode}
@@ -69,13 +71,13 @@ acted-is i code c e old new eo en ee =
 -- 2. Set Bondable ---------------------------------------------------------------------------------------------------------------------------------
 
 -- a value above 1 is refused
-bondable-bad : (i : ℕ) (c : Controller) (ps : Octets) → 1 < getD ps 0 0 → setBondable .act i c ps ≡ refuse valueAbove1
+bondable-bad : (i : ℕ) (c : Controller) (ps : Octets) → 1 < getD ps 0 0 → act setBondable i c ps ≡ refuse ValueAbove1
 unfolding setBondable octet firstOf unless
 bondable-bad i c ps h = rw (lt-ltb 1 (getD ps 0 0) h)
 
 -- 0 or 1 is done at once: Current_Settings is returned, and New Settings follows on change
 bondable-good : (i : ℕ) (c : Controller) (ps : Octets) → getD ps 0 0 ≤ 1
-    → setBondable .act i c ps
+    → act setBondable i c ps
     ≡ done (le32 (currentSettings (settingsOf (withHost c (withBondable (c .host) (on ps))))))
     (newSettings i c (withHost c (withBondable (c .host) (on ps)))) (withBondable (c .host) (on ps))
 unfolding setBondable octet firstOf unless withHost
@@ -113,14 +115,15 @@ module _ (s : Octets) (i : ℕ) (ps d d′ : Octets) (r : Answer) (given : Ready
       → Gives (immediateCommand s i Codes.setBondable ps setBondable) r d d′ s
   unfolding statusOf setBondable
   bondable-refused e h n w =
-      immediate-status s i Codes.setBondable ps setBondable d d′ r given big (bondable-one ps e) valueAbove1 refl (bondable-bad i (controllerOf s i) ps h) n w
+      immediate-status s i Codes.setBondable ps setBondable d d′ r given big (bondable-one ps e) ValueAbove1 refl (bondable-bad i (controllerOf s i) ps h) n w
 
   -- done
   pub bondable-done : (s′ : Octets) (old new : Settings) → length ps ≡ 1 → getD ps 0 0 ≤ 1 → old ≡ settingsOf (controllerOf s i)
       → new ≡ settingsBondable old (eqb (getD ps 0 0) 1)
       → r ≡ Done (length (settingsReply i Codes.setBondable (currentSettings old) (currentSettings new)))
       → d′ ≡ writeAt d 0 (settingsReply i Codes.setBondable (currentSettings old) (currentSettings new))
-      → s′ ≡ encode (putController (decode s) i (withSettings (controllerOf s i) new)) → Gives (immediateCommand s i Codes.setBondable ps setBondable) r d d′ s′
+      → s′ ≡ encode (putController (decode s) i (withSettings (controllerOf s i) new)) → Gives
+      (immediateCommand s i Codes.setBondable ps setBondable) r d d′ s′
   bondable-done s′ old new l h eo en er ed es =
       let c = controllerOf s i in
       let e = withHost c (withBondable (c .host) (on ps)) in

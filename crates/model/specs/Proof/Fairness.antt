@@ -17,11 +17,12 @@ use Rattle.model.specs.State.{withBondable, withConnectable}
 use Rattle.model.specs.State.{withController, withHost, withLowEnergy, withName, withPowered, withSchedule, withTable, withTimer}
 use Rattle.model.specs.Reasons.{Reason, firstOf}
 use Rattle.model.specs.Rules.{Immediate, ImmediateRule, RadioRule, Rule, done, general, immediate, on, radio, refuse, setConnectable, setDiscoverable}
+use Rattle.model.specs.Rules.{act, unless}
 use Rattle.model.specs.Rules.{setLowEnergy}
 use Rattle.model.specs.Rules.{setPowered, setStaticAddress}
 use Rattle.model.specs.Immediate.{addAdvertising, advertisingChecks, addDevice, addUuid, advertised, blockDevice, identityKeyList, linkKeyList}
 use Rattle.model.specs.Immediate.{loadKeys, longTermKeyList}
-use Rattle.model.specs.Immediate.{readInformation, removeAdvertising, removeDevice, removeUuid, setBondable, setLocalName, unblockDevice, unless}
+use Rattle.model.specs.Immediate.{readInformation, removeAdvertising, removeDevice, removeUuid, setBondable, setLocalName, unblockDevice}
 use Rattle.model.specs.Immediate.{unpairDevice, unpaired}
 use Rattle.model.specs.Commands.{rows, rule}
 use Rattle.model.specs.Image.{image}
@@ -67,7 +68,7 @@ OnwardImmediate k c (done out evs host) = Onward k c (withHost c host)
 -- a rule of any kind
 unfoldable pub OnwardRule : Rule → Type 0
 OnwardRule (general f) = Unit {0}
-OnwardRule (immediate q) = (k i : ℕ) (c : Controller) (ps : Octets) → OnwardImmediate k c (q .act i c ps)
+OnwardRule (immediate q) = (k i : ℕ) (c : Controller) (ps : Octets) → OnwardImmediate k c (act q i c ps)
 OnwardRule (radio r) = (k : ℕ) (c : Controller) (ps : Octets) → Onward k c (r .effect c ps)
 
 -- whatever the checks say
@@ -141,7 +142,7 @@ connectable-onward k c ps =
     (λ _. same-schedule k c _ refl)
 
 -- a rule of a command that is never Busy, by what it gives
-at-once : (q : ImmediateRule) → ((k i : ℕ) (c : Controller) (ps : Octets) → OnwardImmediate k c (q .act i c ps)) → OnwardRule (immediate q)
+at-once : (q : ImmediateRule) → ((k i : ℕ) (c : Controller) (ps : Octets) → OnwardImmediate k c (act q i c ps)) → OnwardRule (immediate q)
 unfolding OnwardRule
 at-once q h = h
 
@@ -150,16 +151,21 @@ by-effect : (r : RadioRule) → ((k : ℕ) (c : Controller) (ps : Octets) → On
 unfolding OnwardRule
 by-effect r h = h
 
+-- Read Controller Information is never refused
+information-onward : OnwardRule (immediate readInformation)
+unfolding OnwardRule OnwardImmediate withHost readInformation unless firstOf
+information-onward k i c ps = same-schedule k c _ refl
+
 -- every row leaves the turn alone or passes it on
 all-onward : Each (λ code u. OnwardRule u) rows
-unfolding rows OnwardRule OnwardImmediate withHost readInformation setDiscoverable setBondable setStaticAddress setLocalName addUuid removeUuid loadKeys
+unfolding rows OnwardRule OnwardImmediate withHost setDiscoverable setBondable setStaticAddress setLocalName addUuid removeUuid loadKeys
     unpairDevice unpaired blockDevice
     unblockDevice addDevice removeDevice withTimer withBondable withName withTable
 all-onward =
     tt
     & tt
     & tt
-    & at-once readInformation (λ k i c ps. same-schedule k c _ refl)
+    & information-onward
     & powered-onward
     & by-effect setDiscoverable (λ k c ps. same-schedule k c _ refl)
     & connectable-onward
@@ -239,7 +245,7 @@ module _ (i k : ℕ) (p : PlainHub) where
   rule-forward j code ps (some (general f)) eu s es = either Ends (eqb j 0xFFFF) (λ _. either Ends (eqb (length ps) 0) (λ _. still) (λ _. still)) (λ _. still)
   rule-forward j code ps (some (immediate q)) eu none es = rw es still
   rule-forward j code ps (some (immediate q)) eu (some c) es =
-      rw es (either Ends (q .size ps) (λ z. done-forward j code ps (q .byAddress) c (q .act j c ps) es (rule-onward code (immediate q) eu k j c ps))
+      rw es (either Ends (q .size ps) (λ z. done-forward j code ps (q .byAddress) c (act q j c ps) es (rule-onward code (immediate q) eu k j c ps))
       (λ _. still))
   rule-forward j code ps (some (radio r)) eu none es = rw es still
   rule-forward j code ps (some (radio r)) eu (some c) es =
@@ -263,7 +269,8 @@ module _ (i k : ℕ) (p : PlainHub) where
       (λ _. still))
 
   -- a report of status 0, by the rule of the command that it finishes
-  finish-forward : (j : ℕ) (o : OpenCommand) (u : Option Rule) → rule (o .code) ≡ u → (s : Option Controller) → controllerAt p j ≡ s → Ends (finishBy p j o u s)
+  finish-forward : (j : ℕ) (o : OpenCommand) (u : Option Rule) → rule (o .code) ≡ u → (s : Option Controller) → controllerAt p j ≡ s → Ends
+      (finishBy p j o u s)
   unfolding finishBy stateOf acted OnwardRule
   finish-forward j o none eu s es = still
   finish-forward j o (some (general f)) eu s es = still

@@ -11,7 +11,7 @@ use Rattle.model.specs.Lengths as Lengths
 use Rattle.model.specs.Statuses as Statuses
 use Rattle.model.specs.Octets.{Octets, commandStatus}
 use Rattle.model.specs.State.{Controller, Hardware, Hub, OpenCommand, PlainHub, controllerAt, hardwareOk}
-use Rattle.model.specs.Reasons.{Reason, statusOf, codeUnknown, controllerAbsent, firstOf, indexNotNone, lengthWrong}
+use Rattle.model.specs.Reasons.{Reason, statusOf, firstOf}
 use Rattle.model.specs.Rules.{sameBool, Immediate, ImmediateRule, RadioRule, Rule, done, general, immediate, radio, refuse}
 use Rattle.model.specs.Immediate.{addDevice, addUuid, blockDevice, loadKeys, readInformation, removeDevice, removeUuid, setBondable}
 use Rattle.model.specs.Immediate.{addAdvertising, removeAdvertising, setLocalName, unblockDevice, unpairDevice}
@@ -299,7 +299,8 @@ call-written h (save room) =
 -- EVERY CALL WRITES WHAT ITS ANSWER LETS IT WRITE, whatever the lent octets hold
 pub state-written : (s : Octets) (c : Call) → Written c (meaning s c .answer) (meaning s c .octets)
 unfolding meaning laidOut badState
-state-written s c = either {A = Result Octets} (λ r. Written c (r .answer) (r .octets)) (stateOk s) (λ _. call-written (decode s) c) (λ _. WrittenCase.badState)
+state-written s c = either {A = Result Octets} (λ r. Written c (r .answer) (r .octets)) (stateOk s) (λ _. call-written (decode s) c)
+    (λ _. WrittenCase.badState)
 
 -- 5. What follows for each number ---------------------------------------------------------------------------------------------------------------
 
