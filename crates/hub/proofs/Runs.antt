@@ -24,7 +24,8 @@ use Rattle.model.specs.Theorems.{answers-are-eight, count-fits, demand-3, load-
 use Rattle.model.specs.Proof.Tests.{and-true, both, either, equal, no-way}
 use Rattle.model.specs.Proof.Demand3.{state-back}
 use Rattle.hub.specs.Entries.{Returns}
-use Rattle.hub.specs.Runs.{CountsTrue, Demand3OfRuns, EveryListRuns, Run, Seen, Step, answerIn, countIn, ends, entryOf, names, octetsIn, onAir, step}
+use Rattle.hub.specs.Runs.{asks, CountsTrue, Demand3OfRuns, EveryListRuns, Run, Seen, Step, answerIn, countIn, ends, entryOf, names, octetsIn, onAir}
+use Rattle.hub.specs.Runs.{step}
 use Rattle.hub.specs.Runs as Runs
 
 -- 1. What a number says -------------------------------------------------------------------------------------------------------------------------
@@ -52,7 +53,8 @@ record StepOf (s : Octets) (c : Call) (r : ℕ) (reply left : Octets) : Type 0 w
   state : left ≡ meaning s c .state
 
 -- a contract is such a step
-step-by : (s : Octets) (c : Call) (r : ℕ) (before reply left : Octets) → callWide c ≡ true → Returns (meaning s c) r before reply left → StepOf s c r reply left
+step-by : (s : Octets) (c : Call) (r : ℕ) (before reply left : Octets) → callWide c ≡ true → Returns (meaning s c) r before reply left
+    → StepOf s c r reply left
 step-by s c r before reply left w k =
     let b = seen-is s c r before reply left k in
     record { wide = w; seen = rw (b .0, b .2); count = b .1 ∙ sym (ap (λ (o : Octets). length o) (b .2)); state = k .state }
@@ -96,6 +98,7 @@ unfolding callsOf callsWide trace after CountsTrue
 run-of s end xs ends = record { wide = refl; seen = refl; counts = tt; state = refl }
 run-of s end xs (names index which r k more) = run-of s end xs more
 run-of s end xs (onAir index r k more) = run-of s end xs more
+run-of s end xs (asks packet r k more) = run-of s end xs more
 run-of s end (x ∷ xs) (step {next = n} k more) = run-more s n end x xs (step-of s (x .call) (x .returned) (x .reply) n k) (run-of n end xs more)
 
 -- 4. Demand 3 -----------------------------------------------------------------------------------------------------------------------------------

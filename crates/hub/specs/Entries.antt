@@ -1,5 +1,5 @@
 -- What an exported function returns and leaves.
-use Prim.Native.Nat.{ℕ, _+_, _*_}
+use Prim.Native.Nat.{ℕ, _+_, _*_, _^_}
 use mathlib.Core.Path.{_≡_}
 use mathlib.Core.List.{_++_}
 use lib.ListN.{length, drop}
@@ -7,6 +7,7 @@ use Rattle.model.specs.Octets.{Octets}
 use Rattle.model.specs.Hub.{Result}
 use Rattle.model.specs.Answers.{numberOf, countOf}
 use Rattle.model.specs.declared.Answer.{Answer}
+use Rattle.why.specs.Meaning.{Explained}
 
 -- an answer and its count in one number: answer + 256 x count
 unfoldable pub packed : Answer → ℕ
@@ -18,3 +19,9 @@ pub record Returns (o : Result Octets) (r : ℕ) (before after left : Octets) : 
   pub number : r ≡ o .answer + 256 * length (o .octets)
   pub reply : after ≡ o .octets ++ drop (length (o .octets)) before
   pub state : left ≡ o .state
+
+-- The number returned is that of the answer with the count of its octets and, in its upper half, the status; the text buffer `before` has become `after`, with
+-- these octets at its front and the rest untouched. The state is lent for reading only.
+pub record Explains (e : Explained) (r : ℕ) (before after : Octets) : Type 0 where
+  pub number : r ≡ e .answer + 256 * length (e .octets) + 2 ^ 32 * e .status
+  pub text : after ≡ e .octets ++ drop (length (e .octets)) before

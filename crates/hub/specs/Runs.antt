@@ -13,7 +13,8 @@ use Rattle.model.specs.WellFormed.{callsWide, hardwareWide}
 use Rattle.model.specs.Layout.{cleared}
 use Rattle.model.specs.Meanings.{hubClock, hubCommand, hubLoad, hubName, hubOnAir, hubPlug, hubReport, hubSave, hubUnplug, meaning, plainMeaning}
 use Rattle.model.specs.Demand3.{Agrees, Entry, after, entry, noPending, reduce}
-use Rattle.hub.specs.Entries.{Returns}
+use Rattle.why.specs.Meaning.{hubWhy}
+use Rattle.hub.specs.Entries.{Explains, Returns}
 
 -- What a host reads ---------------------------------------------------------------------------------------------------------------------------
 
@@ -62,7 +63,7 @@ pub data Step (s : Octets) : Call → ℕ → Octets → Octets → Type 0 where
   -- hub_save, which only reads the state
   save : {r : ℕ} {before after : Octets} → Returns (hubSave s (length before)) r before after s → Step s (Hub.save (length before)) r after s
 
--- calls one after the other, each lent the state that the call before it left; names, and what is on air, may be read in between
+-- calls one after the other, each lent the state that the call before it left; names, what is on air, and why a packet would be refused may be asked in between
 pub data Run : Octets → List Seen → Octets → Type 0 where
   -- no call: the state is as it was
   ends : {s : Octets} → Run s [] s
@@ -72,6 +73,9 @@ pub data Run : Octets → List Seen → Octets → Type 0 where
   -- hub_on_air, likewise
   onAir : {s end before after : Octets} {xs : List Seen} (index r : ℕ) → Returns (hubOnAir s index (length before)) r before after s → Run s xs end
       → Run s xs end
+  -- hub_why, likewise
+  asks : {s end before after : Octets} {xs : List Seen} (packet : Octets) (r : ℕ) → Explains (hubWhy s packet (length before)) r before after
+      → Run s xs end → Run s xs end
   -- a call, then the others
   step : {s next end : Octets} {x : Seen} {xs : List Seen} → Step s (x .call) (x .returned) (x .reply) next → Run next xs end → Run s (x ∷ xs) end
 

@@ -1,15 +1,21 @@
-// The hub: the order of a call, and the nine functions that C calls: 01's seven, one that tells a name, and one that tells what is on air.
+// The hub: the order of a call, and the ten functions that C calls: 01's seven, and three that only read: one tells a name, one what is
+// on air, and one why a packet would be refused.
 ghost use mathlib.Core.Path.{_≡_};
 ghost use Prim.Native.Nat.{_≤_};
 ghost use lib.ListN.{length};
 ghost use Rattle.model.specs.Lengths as Lengths;
 ghost use Rattle.model.specs.Hub as Hub;
-ghost use Rattle.model.specs.Meanings.{meaning, hubCommand, hubReport, hubClock, hubPlug, hubUnplug, hubSave, hubLoad, hubName, hubOnAir};
+ghost use Rattle.model.specs.Meanings.{stateOk, meaning, hubCommand, hubReport, hubClock, hubPlug, hubUnplug, hubSave, hubLoad, hubName, hubOnAir};
 ghost use Rattle.model.specs.Answers.{countOf};
 ghost use Rattle.replies.specs.Answers.{Gives};
-ghost use Rattle.hub.specs.Entries.{packed, Returns};
+ghost use mathlib.Core.Bool.{true};
+ghost use Rattle.model.specs.Layout.{decode};
+ghost use Rattle.why.specs.Findings.{why};
+ghost use Rattle.why.specs.Meaning.{hubWhy, textBuffer, told};
+ghost use Rattle.hub.specs.Entries.{packed, Explains, Returns};
 use model::Answer;
 use model::lengths;
+use why::Finding;
 
 // Whether a packet has a header, and as many octets behind it as the header says.
 fn packet_ok(packet: &[u8]) -> bool
@@ -176,6 +182,26 @@ fn on_air(state: &[u8], index: u64, reply: &mut [u8]) -> Answer
     Answer::BadState
 }
 
+// What is found of a packet.
+fn found(state: &[u8], packet: &[u8]) -> Finding
+    requires { ⌜ (stateOk (now state) ≡ true) × (Hub.packetOk (now packet) ≡ true) ⌝ }
+    ensures { λ f. ⌜ f ≡ why (decode (now (state .entry))) (now (packet .entry)) ⌝ }
+{
+    let code = octets::u16_at(packet, 0);
+    let index = octets::u16_at(packet, 2);
+    explain::find(state, index, code, &packet[6..])
+}
+
+// What is found, in words, and the status in the upper half of the number.
+fn tell(text: &mut [u8], f: Finding) -> u64
+    requires { ⌜ textBuffer ≤ length (now text) ⌝ }
+    ensures { λ r. ⌜ Explains (told f) r (now (text .entry)) (now (text .exit)) ⌝ }
+{
+    let count = wording::write_text(text, f);
+    let status = wording::status(f) as u64;
+    pack(Answer::Done(count)) + 0x100000000 * status
+}
+
 // C's call of a command.
 #[no_mangle]
 pub extern "C" fn hub_command(state: &mut [u8], packet: &[u8], reply: &mut [u8]) -> u64
@@ -290,4 +316,24 @@ pub extern "C" fn hub_on_air(state: &[u8], index: u64, reply: &mut [u8]) -> u64
 {
     let a = on_air(state, index, reply);
     pack(a)
+}
+
+// C's question why the hub would refuse a packet: the state, the room for the text, the frame, then what is found.
+#[no_mangle]
+pub extern "C" fn hub_why(state: &[u8], packet: &[u8], text: &mut [u8]) -> u64
+    ensures { λ r. ⌜
+        Explains (hubWhy (now (state .entry)) (now (packet .entry)) (length (now (text .entry)))) r (now (text .entry)) (now (text .exit))
+        ⌝ }
+{
+    if checks::well_formed(state) {
+        if why::TEXT_BUFFER <= text.len() {
+            if packet_ok(packet) {
+                let f = found(state, packet);
+                return tell(text, f);
+            }
+            return pack(Answer::BadPacket);
+        }
+        return pack(Answer::SmallBuffer);
+    }
+    pack(Answer::BadState)
 }

@@ -1,0 +1,10 @@
+pub mod Orders
+pub mod Says
+pub mod Reasons
+pub mod Ascending
+pub mod Statuses
+pub mod Lengths
+pub mod Digits
+pub mod Words
+pub mod Examples
+pub mod Theorems

@@ -1,0 +1,4 @@
+pub mod Findings
+pub mod Spelling
+pub mod Wording
+pub mod Meaning
