@@ -1,7 +1,8 @@
 /*
  * A small host that plays a shift: it starts from an image or fresh, plugs two controllers, powers them with a slow radio while two clients
  * interleave, loads keys, names a controller, advertises in turns while the clock runs, saves by write-then-rename, loads again and shows the name.
- * Every call is printed in words with its octets, and after it what is on air, as the radio asks for it, where that has changed.
+ * Every call is printed in words with its octets, and after it what is on air, as the radio asks for it, where that has changed. Behind a refused
+ * command stands why the hub refuses it, in the log too.
  *
  *     host [IMAGE [LOG]]      IMAGE is read if it is there, and written at the end; LOG gets every packet (call_log.h)
  */
@@ -108,6 +109,17 @@ static unsigned told(const char *what, uint64_t result)
     return said(what, result);
 }
 
+/* Says why a packet was refused, and notes it in the log. A refused command leaves the state alone, so this may be asked after it. */
+static void say_why(const uint8_t *packet, size_t length)
+{
+    uint8_t text[HUB_TEXT_MIN];
+    char words[sizeof text + 16];
+    uint64_t result = hub_why(state, sizeof state, packet, length, text, sizeof text);
+    snprintf(words, sizeof words, "Refused: %.*s", (int)hub_count(result), (const char *)text);
+    printf("    %s\n", words);
+    log_line(NULL, "note", words, NULL, 0);
+}
+
 /* A client sends a command packet: code, index, parameters. */
 static unsigned send(const char *client, const char *does, uint16_t code, uint16_t index, const uint8_t *params, size_t length)
 {
@@ -127,7 +139,10 @@ static unsigned send(const char *client, const char *does, uint16_t code, uint16
     if (hub_count(result) > 0)
         log_line(client, "wrote", NULL, reply, hub_count(result));
     snprintf(what, sizeof what, "Client %s %s", client, does);
-    return said(what, result);
+    said(what, result);
+    if (hub_answer(result) == HUB_REFUSED)
+        say_why(packet, 6 + length);
+    return hub_answer(result);
 }
 
 static unsigned send_octet(const char *client, const char *does, uint16_t code, uint16_t index, uint8_t value)
@@ -227,6 +242,8 @@ static void load_keys(void)
         key[9] = 16;
     }
     send("A", "loads two long term keys", 0x0013, 0, list, sizeof list);
+    list[2 + 36 + 9] = 20;
+    send("B", "loads a list whose second key has 20 octets: refused, the keys stay", 0x0013, 0, list, sizeof list);
     memcpy(list + 2 + 36, list + 2, 36);
     send("B", "loads a list that names one device twice: refused, the keys stay", 0x0013, 0, list, sizeof list);
     send("A", "adds a device", 0x0033, 0, device, sizeof device);

@@ -1,8 +1,9 @@
 /*
  * The hub: steers up to four Bluetooth controllers, index 0 to 3, by the BlueZ management commands.
  *
- * The caller lends every buffer: the state, the packet or image, the reply. Each call returns one number that holds the answer and the count of
- * octets written to the reply; take it apart with hub_answer and hub_count. The reply buffer behind these octets is left alone.
+ * The caller lends every buffer: the state, the packet or image, the reply or text. Each call returns one number that holds the answer and the count of
+ * octets written to the reply, and of hub_why a status too; take it apart with hub_answer, hub_count and hub_extra. The reply buffer behind these octets
+ * is left alone.
  *
  * What the caller owes:
  *   - each length is the true length of its buffer;
@@ -36,6 +37,9 @@
  * other address in these places is answered HUB_BAD_IMAGE and a state HUB_BAD_STATE, as those of an older library may be. Nothing in them is mended: keep
  * the file, and start from the empty image.
  *
+ * A refusal tells a status and no more. hub_why says in words which check fails first and where in the packet: lend it the same packet and the state as it
+ * was before the command, or right after it, since a refused command leaves the state alone. docs/WHY.md has every wording.
+ *
  * Opcodes, event codes and status codes are those of BlueZ's mgmt.h; this header defines none of its names.
  */
 #ifndef HUB_H
@@ -50,17 +54,19 @@ extern "C" {
 
 /* The length of the state buffer; any other length is answered HUB_BAD_STATE. */
 #define HUB_STATE_LEN 17488u
-/* The shortest reply buffer that every call but hub_save takes. */
+/* The shortest reply buffer that every call but hub_save takes; hub_why has a text buffer in its place. */
 #define HUB_REPLY_MIN 1024u
 /* The shortest reply buffer that hub_save takes, and the length of the longest image. */
 #define HUB_IMAGE_MAX 16014u
+/* The shortest text buffer that hub_why takes; no text is longer. */
+#define HUB_TEXT_MIN 256u
 
 /* What a call answers. */
 #define HUB_DONE 0u         /* done: the reply and the events behind it are written, the state is the new one */
 #define HUB_STARTED 1u      /* started: the radio owes a report; the command is kept, nothing is written */
 #define HUB_REFUSED 2u      /* refused: one reply, which tells the status; state as it was, here and below */
 #define HUB_BAD_PACKET 3u   /* the packet has no whole header, or another length than its header says */
-#define HUB_SMALL_BUFFER 4u /* the reply buffer is shorter than HUB_REPLY_MIN (hub_save: than HUB_IMAGE_MAX) */
+#define HUB_SMALL_BUFFER 4u /* the reply buffer is shorter than HUB_REPLY_MIN (hub_save: HUB_IMAGE_MAX; hub_why, its text: HUB_TEXT_MIN) */
 #define HUB_BAD_STATE 5u    /* the lent state is not well formed */
 #define HUB_BAD_ARGUMENT 6u /* a wrong argument, of hub_plug, hub_unplug, hub_report, hub_clock, hub_name or hub_on_air */
 #define HUB_BAD_IMAGE 7u    /* hub_load does not take the image */
@@ -71,13 +77,13 @@ static inline unsigned hub_answer(uint64_t result)
     return (unsigned)(result & 0xFFu);
 }
 
-/* The count of octets written to the reply buffer. */
+/* The count of octets written to the reply buffer, or to the text buffer of hub_why. */
 static inline size_t hub_count(uint64_t result)
 {
     return (size_t)((result >> 8) & 0xFFFFFFu);
 }
 
-/* A second number that some calls give; 0 in all calls so far. */
+/* A second number: of hub_why the status that hub_command would answer with, 0 if the packet would be taken. Of all other calls it is 0. */
 static inline uint32_t hub_extra(uint64_t result)
 {
     return (uint32_t)(result >> 32);
@@ -94,7 +100,8 @@ struct hub_frame {
 /*
  * Tells the packets of a reply apart: the one that begins at *position, which is moved behind it. Start at 0 and go on while it returns 1; it returns
  * 0 at the end and where the octets up to count are no whole packet, with *position as it was, so that *position == count says that all was read.
- * No octet past the count is looked at. (What hub_save, hub_name and hub_on_air write is an image, a name and an instance, not packets.)
+ * No octet past the count is looked at. (What hub_save, hub_name, hub_on_air and hub_why write is an image, a name, an instance and a
+ * text, not packets.)
  */
 static inline int hub_next_frame(const uint8_t *reply, size_t count, size_t *position, struct hub_frame *frame)
 {
@@ -169,6 +176,15 @@ uint64_t hub_name(const uint8_t *state, size_t state_len, uint64_t index, uint64
  * hub_load and hub_unplug none is. Answers 0, or 6 for an absent index, 4 or 5.
  */
 uint64_t hub_on_air(const uint8_t *state, size_t state_len, uint64_t index, uint8_t *reply, size_t reply_len);
+
+/*
+ * Says what hub_command with room for its reply would answer to a packet, and why: writes one line of ASCII with no newline and no zero behind it, which is
+ * "would be taken", or the name of the status, the check that fails first and, where that check is of a part of the packet, its place, as in
+ * "Invalid Parameters: the key type is above 4, record 1, octet 51". Octets are counted from the packet's first, in a record too, and
+ * records from the list's first, both from 0. With answer 0 hub_extra gives the status, which is 0 exactly if hub_command would answer 0 or 1. The state is
+ * only read. docs/WHY.md lists every line it can write. Answers 0, 3, 4 or 5.
+ */
+uint64_t hub_why(const uint8_t *state, size_t state_len, const uint8_t *packet, size_t packet_len, uint8_t *text, size_t text_len);
 
 #ifdef __cplusplus
 }

@@ -16,6 +16,8 @@
 #include <stdlib.h>
 #include <string.h>
 
+#include "octets.h"
+
 /* Opcodes of the Linux monitor. */
 enum { SYSTEM_NOTE = 12, CONTROL_OPEN = 14, CONTROL_CLOSE = 15, CONTROL_COMMAND = 16, CONTROL_EVENT = 17 };
 
@@ -245,15 +247,6 @@ static void settle(const char *name, const char *word)
     if (sent.cookie != 0 && !answered && sent.index < CONTROLLERS)
         started[sent.index] = sent;
     sent.cookie = 0;
-}
-
-static int hex_digit(char c)
-{
-    if (c >= '0' && c <= '9')
-        return c - '0';
-    if (c >= 'a' && c <= 'f')
-        return c - 'a' + 10;
-    return -1;
 }
 
 /* Turns hexadecimal digits into octets, and counts them. */

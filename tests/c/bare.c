@@ -1,7 +1,7 @@
 /*
- * The library with nothing but itself: no C library, no start files, two functions supplied here. A fresh hub is loaded, tells its version and that
- * nothing is on air, and refuses an image; the program ends by a system call with the number of octets of the version's reply, 12, or with what
- * went wrong.
+ * The library with nothing but itself: no C library, no start files, two functions supplied here. A fresh hub is loaded, tells its version, that it would
+ * take that command and that nothing is on air, and refuses an image; the program ends by a system call with the number of octets of the version's
+ * reply, 12, or with what went wrong.
  *
  *     gcc -ffreestanding -nostdlib -static bare.c libhub.a
  */
@@ -43,6 +43,8 @@ static unsigned run(void)
         return 102;
     if (hub_on_air(state, sizeof state, 3, reply, HUB_REPLY_MIN) != HUB_DONE)
         return 105;
+    if (hub_why(state, sizeof state, version, sizeof version, reply, 256) != HUB_DONE + 256u * 14)
+        return 106;
     result = hub_save(state, sizeof state, reply, sizeof reply);
     if (hub_answer(result) != HUB_DONE || hub_answer(hub_load(state, sizeof state, reply, hub_count(result))) != HUB_DONE)
         return 103;

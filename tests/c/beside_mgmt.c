@@ -40,9 +40,10 @@ static_assert(sizeof(struct mgmt_cp_add_advertising) == 11, "Add Advertising");
 static_assert(sizeof(struct mgmt_cp_remove_advertising) == 1, "Remove Advertising");
 static_assert(sizeof(struct mgmt_ev_advertising_added) == 1, "Advertising Added");
 
-static uint8_t state[HUB_STATE_LEN], reply[HUB_REPLY_MIN];
+static uint8_t state[HUB_STATE_LEN], reply[HUB_REPLY_MIN], text[256];
+static uint64_t why;
 
-/* Sends a command of up to one octet, on a little-endian machine. */
+/* Sends a command of up to one octet, on a little-endian machine; asks first why it would be refused. */
 static uint64_t send_mode(uint16_t opcode, uint16_t index, uint16_t length, uint8_t value)
 {
     struct {
@@ -54,6 +55,7 @@ static uint64_t send_mode(uint16_t opcode, uint16_t index, uint16_t length, uint
     packet.header.index = index;
     packet.header.len = length;
     packet.mode.val = value;
+    why = hub_why(state, sizeof state, (const uint8_t *)&packet, MGMT_HDR_SIZE + (size_t)length, text, sizeof text);
     return hub_command(state, sizeof state, (const uint8_t *)&packet, MGMT_HDR_SIZE + (size_t)length, reply, sizeof reply);
 }
 
@@ -84,6 +86,12 @@ static int tells(uint16_t event, uint16_t index, uint16_t opcode, uint8_t status
     return header.opcode == event && header.index == index && body.opcode == opcode && body.status == status;
 }
 
+/* Whether the question before the last command gave this status. */
+static int told(uint8_t status)
+{
+    return hub_answer(why) == HUB_DONE && hub_extra(why) == status;
+}
+
 int main(void)
 {
     static const uint8_t empty[] = { 0, 0, 0, 6, 1, 0 };
@@ -95,10 +103,10 @@ int main(void)
     right = right && hub_answer(send_mode(MGMT_OP_READ_VERSION, MGMT_INDEX_NONE, 0, 0)) == HUB_DONE;
     right = right && tells(MGMT_EV_CMD_COMPLETE, MGMT_INDEX_NONE, MGMT_OP_READ_VERSION, MGMT_STATUS_SUCCESS);
     right = right && hub_answer(send_mode(MGMT_OP_SET_POWERED, 0, 1, 2)) == HUB_REFUSED;
-    right = right && tells(MGMT_EV_CMD_STATUS, 0, MGMT_OP_SET_POWERED, MGMT_STATUS_INVALID_PARAMS);
+    right = right && tells(MGMT_EV_CMD_STATUS, 0, MGMT_OP_SET_POWERED, MGMT_STATUS_INVALID_PARAMS) && told(MGMT_STATUS_INVALID_PARAMS);
     right = right && hub_answer(send_mode(MGMT_OP_SET_POWERED, 0, 1, 1)) == HUB_STARTED;
     right = right && hub_answer(send_mode(MGMT_OP_SET_CONNECTABLE, 0, 1, 1)) == HUB_REFUSED;
-    right = right && tells(MGMT_EV_CMD_STATUS, 0, MGMT_OP_SET_CONNECTABLE, MGMT_STATUS_BUSY);
+    right = right && tells(MGMT_EV_CMD_STATUS, 0, MGMT_OP_SET_CONNECTABLE, MGMT_STATUS_BUSY) && told(MGMT_STATUS_BUSY);
     right = right && hub_answer(hub_report(state, sizeof state, 0, MGMT_STATUS_SUCCESS, reply, sizeof reply)) == HUB_DONE;
     right = right && tells(MGMT_EV_CMD_COMPLETE, 0, MGMT_OP_SET_POWERED, MGMT_STATUS_SUCCESS);
     right = right && hub_answer(send_advertising(1)) == HUB_DONE && tells(MGMT_EV_CMD_COMPLETE, 0, MGMT_OP_ADD_ADVERTISING, MGMT_STATUS_SUCCESS);

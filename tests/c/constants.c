@@ -10,7 +10,7 @@ static uint8_t state[HUB_STATE_LEN + 1];
 static uint8_t reply[HUB_IMAGE_MAX];
 static const uint8_t empty[] = { 0, 0, 0, 6, 1, 0 };
 static const uint8_t version[] = { 1, 0, 0xFF, 0xFF, 0, 0 }, commands[] = { 2, 0, 0xFF, 0xFF, 0, 0 };
-static const uint8_t address[6] = { 1, 2, 3, 4, 5, 6 };
+static const uint8_t address[6] = { 1, 2, 3, 4, 5, 6 }, unknown[6] = { 0x08 };
 static int failures;
 
 static void expect(const char *what, unsigned got, unsigned wanted)
@@ -51,6 +51,16 @@ int main(void)
     expect("on air", hub_answer(result), HUB_DONE);
     expect("its count", (unsigned)hub_count(result), 0);
     expect("on air, reply one octet short", hub_answer(hub_on_air(state, HUB_STATE_LEN, 3, reply, HUB_REPLY_MIN - 1)), HUB_SMALL_BUFFER);
+    expect("why, text one octet short", hub_answer(hub_why(state, HUB_STATE_LEN, version, 6, reply, 255)), HUB_SMALL_BUFFER);
+    result = hub_why(state, HUB_STATE_LEN, commands, 6, reply, 256);
+    expect("why", hub_answer(result), HUB_DONE);
+    expect("its count", (unsigned)hub_count(result), 14);
+    expect("its second number", hub_extra(result), 0);
+    result = hub_why(state, HUB_STATE_LEN, address, 6, reply, 256);
+    expect("why, of no packet", hub_answer(result), HUB_BAD_PACKET);
+    result = hub_why(state, HUB_STATE_LEN, unknown, 6, reply, 256);
+    expect("why, of an unknown command", hub_answer(result), HUB_DONE);
+    expect("its second number", hub_extra(result), 1);
     state[5] = 1;
     expect("a state with an octet that means nothing", hub_answer(hub_clock(state, HUB_STATE_LEN, 0, reply, HUB_REPLY_MIN)), HUB_BAD_STATE);
     printf("constants: %s\n", failures ? "wrong" : "right");

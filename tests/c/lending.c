@@ -8,7 +8,7 @@
 
 #include "busy.h"
 
-enum { PAGE = 4096, ROOM = 8 * PAGE, BUFFERS = 4 };
+enum { PAGE = 4096, ROOM = 8 * PAGE, BUFFERS = 4, ENTRIES = 10, TEXT = 256 };
 
 static uint8_t *pages[BUFFERS]; /* of each the first and the last page may not be touched */
 static uint8_t base[HUB_STATE_LEN], image[HUB_IMAGE_MAX];
@@ -51,7 +51,7 @@ static uint8_t *place(int buffer, size_t length, int at_end)
     return at_end ? pages[buffer] + ROOM - PAGE - length : pages[buffer] + PAGE;
 }
 
-/* One of nine calls. The octets are those of a packet, an address or an image. */
+/* One of ten calls. The octets are those of a packet, an address or an image. */
 static uint64_t call(int which, uint8_t *state, size_t state_len, const uint8_t *octets, size_t octets_len, uint8_t *reply, size_t reply_len)
 {
     switch (which) {
@@ -63,6 +63,7 @@ static uint64_t call(int which, uint8_t *state, size_t state_len, const uint8_t 
     case 5: return hub_save(state, state_len, reply, reply_len);
     case 7: return hub_name(state, state_len, 2, 0, reply, reply_len);
     case 8: return hub_on_air(state, state_len, 3, reply, reply_len);
+    case 9: return hub_why(state, state_len, octets, octets_len, reply, reply_len);
     default: return hub_load(state, state_len, octets, octets_len);
     }
 }
@@ -70,7 +71,8 @@ static uint64_t call(int which, uint8_t *state, size_t state_len, const uint8_t 
 /* What a call answers where some of its buffers have no octets: first of all the state, then the reply, then the rest. */
 static unsigned wanted(int which, int no_state, int no_octets, int no_reply)
 {
-    static const unsigned refusals[] = { HUB_BAD_PACKET, HUB_DONE, HUB_DONE, HUB_DONE, HUB_BAD_ARGUMENT, HUB_DONE, HUB_BAD_IMAGE, HUB_DONE, HUB_DONE };
+    static const unsigned refusals[ENTRIES] = { HUB_BAD_PACKET, HUB_DONE, HUB_DONE, HUB_DONE, HUB_BAD_ARGUMENT,
+                                                HUB_DONE, HUB_BAD_IMAGE, HUB_DONE, HUB_DONE, HUB_BAD_PACKET };
     if (no_state)
         return HUB_BAD_STATE;
     if (no_reply && which != 6)
@@ -84,9 +86,9 @@ static void no_octets(int null)
     static const uint8_t version[] = { 1, 0, 0xFF, 0xFF, 0, 0 }, address[] = { 1, 2, 3, 4, 5, 6 };
     static uint8_t state[HUB_STATE_LEN], reply[HUB_IMAGE_MAX];
     uint8_t *none = null ? NULL : place(0, 0, 1);
-    for (int which = 0; which < 9; which++)
+    for (int which = 0; which < ENTRIES; which++)
         for (int mask = 0; mask < 8; mask++) {
-            const uint8_t *octets = which == 0 ? version : which == 4 ? address : image;
+            const uint8_t *octets = which == 0 || which == 9 ? version : which == 4 ? address : image;
             size_t length = which == 6 ? image_length : 6;
             uint64_t result;
             memcpy(state, base, sizeof state);
@@ -119,27 +121,34 @@ static void packet_of(struct packet *packet, unsigned k)
     }
 }
 
-enum { PACKETS = 14, CALLS = PACKETS + 8 };
+enum { PACKETS = 14, CALLS = 2 * PACKETS + 8 };
 
-/* Call k of a shift; what is lent ends at the places that are given for it. */
+/* The reply or text buffer that call k of a shift has; load has none. */
+static size_t room_of(unsigned k)
+{
+    return k == CALLS - 2 ? HUB_IMAGE_MAX : k < PACKETS ? TEXT : HUB_REPLY_MIN;
+}
+
+/* Call k of a shift, each packet first asked about and then given; what is lent ends at the places that are given for it. */
 static uint64_t one(unsigned k, uint8_t *state, uint8_t *octets, uint8_t *reply)
 {
     struct packet packet;
-    if (k < PACKETS) {
-        packet_of(&packet, k);
+    uint8_t *room = reply - room_of(k);
+    if (k < 2 * PACKETS) {
+        packet_of(&packet, k % PACKETS);
         memcpy(octets - packet.length, packet.octets, packet.length);
-        return call(0, state, HUB_STATE_LEN, octets - packet.length, packet.length, reply - HUB_REPLY_MIN, HUB_REPLY_MIN);
+        return call(k < PACKETS ? 9 : 0, state, HUB_STATE_LEN, octets - packet.length, packet.length, room, room_of(k));
     }
     if (k == CALLS - 1) {
         memcpy(octets - image_length, image, image_length);
         return call(6, state, HUB_STATE_LEN, octets - image_length, image_length, NULL, 0);
     }
     if (k == CALLS - 2)
-        return call(5, state, HUB_STATE_LEN, NULL, 0, reply - HUB_IMAGE_MAX, HUB_IMAGE_MAX);
+        return call(5, state, HUB_STATE_LEN, NULL, 0, room, HUB_IMAGE_MAX);
     if (k >= CALLS - 4)
-        return call(k == CALLS - 3 ? 7 : 8, state, HUB_STATE_LEN, NULL, 0, reply - HUB_REPLY_MIN, HUB_REPLY_MIN);
+        return call(k == CALLS - 3 ? 7 : 8, state, HUB_STATE_LEN, NULL, 0, room, HUB_REPLY_MIN);
     memcpy(octets - 6, "\1\2\3\4\5\6", 6);
-    return call((int)(k - PACKETS) + 1, state, HUB_STATE_LEN, octets - 6, 6, reply - HUB_REPLY_MIN, HUB_REPLY_MIN);
+    return call((int)(k - 2 * PACKETS) + 1, state, HUB_STATE_LEN, octets - 6, 6, room, HUB_REPLY_MIN);
 }
 
 /* A shift with its buffers so many octets before the end of their pages: a sum over all that is answered and written. */
@@ -150,7 +159,7 @@ static uint64_t shift(size_t a, size_t b, size_t c)
     memcpy(state, base, HUB_STATE_LEN);
     for (unsigned k = 0; k < CALLS; k++) {
         uint64_t result = one(k, state, octets, reply);
-        const uint8_t *room = reply - (k == CALLS - 2 ? HUB_IMAGE_MAX : HUB_REPLY_MIN);
+        const uint8_t *room = reply - room_of(k);
         sum = sum * 31 + result;
         for (size_t i = 0; i < hub_count(result); i++)
             sum = sum * 31 + room[i];
@@ -181,6 +190,7 @@ static void at_start(void)
         packet_of(&packet, k);
         memcpy(state, base, HUB_STATE_LEN);
         memcpy(octets, packet.octets, packet.length);
+        expect("why at the start", k, hub_answer(call(9, state, HUB_STATE_LEN, octets, packet.length, reply, TEXT)) == HUB_DONE);
         expect("at the start", k, hub_answer(call(0, state, HUB_STATE_LEN, octets, packet.length, reply, HUB_REPLY_MIN)) <= HUB_REFUSED);
     }
     memcpy(octets, image, image_length);

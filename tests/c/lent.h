@@ -76,10 +76,11 @@ static void expect(const char *what, size_t with, uint64_t result, unsigned answ
            hub_count(result), count);
 }
 
-/* All calls but load with arguments that are wrong wherever they can be, all answered alike. */
-static void try_all_wrong(const char *what, size_t with, const struct lent *state, const struct lent *reply, unsigned answer)
+/* All calls but load with arguments that are wrong wherever they can be, all answered alike; a text buffer is too short from 255 octets down. */
+static inline void try_all_wrong(const char *what, size_t with, const struct lent *state, const struct lent *reply, unsigned answer)
 {
     uint8_t *s = state->octets, *r = reply->octets;
+    const size_t short_text = reply->length < 255 ? reply->length : 255;
     expect(what, with, hub_command(s, state->length, read_version, 5, r, reply->length), answer, state, reply, NULL, 0);
     expect(what, with, hub_report(s, state->length, 9, 99, r, reply->length), answer, state, reply, NULL, 0);
     expect(what, with, hub_clock(s, state->length, 999, r, reply->length), answer, state, reply, NULL, 0);
@@ -88,6 +89,7 @@ static void try_all_wrong(const char *what, size_t with, const struct lent *stat
     expect(what, with, hub_save(s, state->length, r, reply->length), answer, state, reply, NULL, 0);
     expect(what, with, hub_name(s, state->length, 9, 9, r, reply->length), answer, state, reply, NULL, 0);
     expect(what, with, hub_on_air(s, state->length, 9, r, reply->length), answer, state, reply, NULL, 0);
+    expect(what, with, hub_why(s, state->length, read_version, 5, r, short_text), answer, state, reply, NULL, 0);
 }
 
 #endif

@@ -1,16 +1,16 @@
 /*
  * Every change of one octet of a busy state, to eight values with one bit flipped, 0 and 0xFF: the changed state is lent to command, report, clock,
- * unplug, save and on air. Each either answers 5 and writes nothing, or gives another answer of its own inside its buffers. All six answer
+ * unplug, save, on air and why. Each either answers 5 and writes nothing, or gives another answer of its own inside its buffers. All seven answer
  * 5, or none does.
  *
  *     one_octet [STRIDE [FIRST]]      only every STRIDE-th octet, from FIRST on; every one if nothing is said
  */
 #include "busy.h"
 
-enum { COMMAND, REPORT, CLOCK, UNPLUG, SAVE, ON_AIR, CALLS };
+enum { COMMAND, REPORT, CLOCK, UNPLUG, SAVE, ON_AIR, WHY, CALLS };
 enum { COMMANDS = 23, FILLER = 0xA5 };
 
-static const char *const call_names[CALLS] = { "command", "report", "clock", "unplug", "save", "on air" };
+static const char *const call_names[CALLS] = { "command", "report", "clock", "unplug", "save", "on air", "why" };
 static uint8_t *base, *changed;       /* the busy state, and that with one octet changed */
 static uint8_t *state, *reply, *room; /* what is lent, each as long as it must be and no longer: state, reply, save's reply */
 static uint8_t *filler;               /* what a reply buffer holds before a call */
@@ -62,6 +62,8 @@ static uint64_t run(int call, size_t at)
         return hub_unplug(state, HUB_STATE_LEN, index, reply, HUB_REPLY_MIN);
     case ON_AIR:
         return hub_on_air(state, HUB_STATE_LEN, index, reply, HUB_REPLY_MIN);
+    case WHY:
+        return hub_why(state, HUB_STATE_LEN, packet->octets, packet->length, reply, HUB_REPLY_MIN);
     default:
         return hub_save(state, HUB_STATE_LEN, room, HUB_IMAGE_MAX);
     }
@@ -90,13 +92,13 @@ static const char *fault(int call, uint64_t result)
     unsigned answer = hub_answer(result);
     size_t count = hub_count(result), lent = call == SAVE ? HUB_IMAGE_MAX : HUB_REPLY_MIN;
     int same = memcmp(state, changed, HUB_STATE_LEN) == 0;
-    if (!may_answer(call, answer) || hub_extra(result) != 0)
+    if (!may_answer(call, answer) || hub_extra(result) > (call == WHY && answer == HUB_DONE ? 0x14 : 0))
         return "an answer that it does not have";
     if (count > lent || (count != 0 && answer != HUB_DONE && answer != HUB_REFUSED))
         return "a count that cannot be";
     if (memcmp((call == SAVE ? room : reply) + count, filler, lent - count) != 0)
         return "octets written past the count";
-    if (!same && (call == SAVE || call == ON_AIR || answer > HUB_STARTED))
+    if (!same && (call == SAVE || call == ON_AIR || call == WHY || answer > HUB_STARTED))
         return "a state changed by a call that is refused";
     if (!same && hub_answer(hub_save(state, HUB_STATE_LEN, room, HUB_IMAGE_MAX)) != HUB_DONE)
         return "a state left that the next call does not take";
@@ -105,7 +107,7 @@ static const char *fault(int call, uint64_t result)
     return NULL;
 }
 
-/* Lends the changed state to the six calls. */
+/* Lends the changed state to the seven calls. */
 static void try_change(size_t at)
 {
     unsigned refusing = 0;

@@ -104,6 +104,26 @@ static unsigned commands(void)
     return most(worst, command_takes(&packet, HUB_DONE));
 }
 
+/* The question why: of lists with no fault and with one found late, of names in full tables, of settings, and of a packet that is refused at once. */
+static unsigned whys(void)
+{
+    struct packet packets[7];
+    unsigned worst = 0;
+    long_term_keys(&packets[0], 3, 32);
+    link_keys(&packets[1], 0, 32);
+    identity_keys(&packets[2], 1, 32);
+    memcpy(packets[2].octets + 8 + 31 * 23, packets[2].octets + 8 + 30 * 23, 23);
+    name_device(&packets[3], 0x001B, 0, 40, 8, 1);
+    make_packet(&packets[4], 0x0007, 2, 1);
+    add_instance(&packets[5], 2, 3, 9, 9, 31, 31);
+    make_packet(&packets[6], 0xFFFF, 9, 0);
+    for (int i = 0; i < 7; i++) {
+        uint64_t args[10] = { ARG(state), HUB_STATE_LEN, ARG(packets[i].octets), packets[i].length, ARG(reply), 256 };
+        worst = most(worst, takes((entry)hub_why, args, HUB_DONE));
+    }
+    return worst;
+}
+
 /* Everything else. */
 static void others(void)
 {
@@ -126,6 +146,7 @@ static void others(void)
     printf("hub_save %u\n", takes((entry)hub_save, save, HUB_DONE));
     printf("hub_name %u\n", takes((entry)hub_name, name, HUB_DONE));
     printf("hub_on_air %u\n", takes((entry)hub_on_air, on_air, HUB_DONE));
+    printf("hub_why %u\n", whys());
     printf("hub_load %u\n", takes((entry)hub_load, load, HUB_DONE));
     must("unplug", hub_unplug(base, sizeof base, 1, reply, sizeof reply), HUB_DONE);
     printf("hub_plug %u\n", takes((entry)hub_plug, plug, HUB_DONE));

@@ -10,9 +10,9 @@
 
 #include "busy.h"
 
-enum { ROUNDS = 8, TRIES = 25, OCTETS = 16, ENTRIES = 9, INPUTS = 33 };
+enum { ROUNDS = 8, TRIES = 25, OCTETS = 16, ENTRIES = 10, WHY = 9, COMMANDS = 21, INPUTS = 33 + COMMANDS + 3 };
 
-/* A call: an entry by its number, a packet for a command, a reading for the clock, else an index. */
+/* A call: an entry by its number, a packet for a command and for the question why, a reading for the clock, else an index. */
 struct input {
     int entry;
     unsigned index;
@@ -20,7 +20,7 @@ struct input {
 };
 
 static const char *const names[ENTRIES] = { "hub_command", "hub_report", "hub_clock", "hub_plug", "hub_unplug", "hub_save", "hub_load",
-                                            "hub_name", "hub_on_air" };
+                                            "hub_name", "hub_on_air", "hub_why" };
 static const uint8_t address[6] = { 1, 2, 3, 4, 5, 6 };
 static uint8_t full[HUB_STATE_LEN], state[HUB_STATE_LEN], image[HUB_IMAGE_MAX], reply[HUB_IMAGE_MAX];
 static struct input inputs[INPUTS];
@@ -123,6 +123,19 @@ static void named(unsigned code, size_t length, int table, unsigned k, unsigned 
     memcpy(make_packet(&input(0, 3)->packet, code, 3, length), record, length);
 }
 
+/* The question why of each command, and of the three lists with their last record like the one before it. */
+static void make_questions(void)
+{
+    static const size_t sizes[3] = { 25, 36, 23 };
+    for (unsigned k = 0; k < COMMANDS; k++)
+        input(WHY, 3)->packet = inputs[k].packet;
+    for (unsigned k = 0; k < 3; k++) {
+        struct packet *packet = &input(WHY, 3)->packet;
+        *packet = inputs[k].packet;
+        memcpy(packet->octets + packet->length - sizes[k], packet->octets + packet->length - 2 * sizes[k], sizes[k]);
+    }
+}
+
 /* The calls that have most to do. */
 static void make_inputs(unsigned octet)
 {
@@ -152,8 +165,9 @@ static void make_inputs(unsigned octet)
     input(1, 3);
     for (unsigned k = 0; k < 5; k++)
         input(2, steps[k]);
-    for (int entry = 3; entry < ENTRIES; entry++)
+    for (int entry = 3; entry < WHY; entry++)
         input(entry, 3);
+    make_questions();
 }
 
 static uint64_t call(const struct input *in)
@@ -167,7 +181,8 @@ static uint64_t call(const struct input *in)
     case 5: return hub_save(state, sizeof state, reply, HUB_IMAGE_MAX);
     case 6: return hub_load(state, sizeof state, image, sizeof image);
     case 7: return hub_name(state, sizeof state, in->index, 0, reply, HUB_REPLY_MIN);
-    default: return hub_on_air(state, sizeof state, in->index, reply, HUB_REPLY_MIN);
+    case 8: return hub_on_air(state, sizeof state, in->index, reply, HUB_REPLY_MIN);
+    default: return hub_why(state, sizeof state, in->packet.octets, in->packet.length, reply, 256);
     }
 }
 

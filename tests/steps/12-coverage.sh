@@ -16,12 +16,17 @@ definitions() {
             sub(/ \(.*/, "", head)
             n = head ~ /[(){}=]/ ? 0 : split(head, word, " ")
             for (k = 1; k <= n; k++) if (word[k] !~ /^(unfoldable|abbrev|pub|record|data)$/) print file word[k]
-        }' crates/*/specs/*.antt
+        }' crates/*/specs/*.antt crates/*/proofs/*.antt
 }
 
-# crate::name of each function, struct, enum and constant of the code.
+# crate::name of each function, struct, enum and constant of the code, and crate::Enum::Variant.
 code() {
     grep -oE '\b(fn|struct|enum|const) \w+' crates/*/src/*.rt | sed -E 's|^crates/([^/]+)/.* |\1::|'
+    awk '
+        FNR == 1 { split(FILENAME, part, "/"); enum = "" }
+        /^}/ { enum = "" }
+        enum != "" && match($0, /^    [A-Z][A-Za-z0-9]*/) { print part[2] "::" enum "::" substr($0, 5, RLENGTH - 4) }
+        /^pub enum / { enum = $3 }' crates/*/src/*.rt
 }
 
 names=$(grep -o '`[^`]*`' "$list" | tr -d '`' | sort -u)

@@ -101,5 +101,5 @@ WORDS
 for words in "Busy (0x0a)" "Failed (0x03)" "Invalid Parameters (0x0d)" "Invalid Index (0x11)" "Success (0x00)"; do says " Status: $words"; done
 # Nothing that btmon could not read.
 none "$out/btmon.txt" -iE '^@ .*: unknown|malformed|invalid packet size|too short packet'
-diff <(grep -c ' command \| event ' "$out/shift.txt") <(grep -c '^@ MGMT Command\|^@ MGMT Event' "$out/btmon.txt")
+diff <(grep -cE '^[^ ]+ [^ ]+ (command|event) ' "$out/shift.txt") <(grep -c '^@ MGMT Command\|^@ MGMT Event' "$out/btmon.txt")
 echo "btmon: every packet in words"

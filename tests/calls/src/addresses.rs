@@ -124,9 +124,14 @@ pub fn at_refusal(packet: &[u8], reason: Reason, see: &mut See) {
     }
 }
 
+/// Whether a key has an LE Random address that is no static one.
+fn is_outside<R: Record>(key: &R) -> bool {
+    key.fault().is_some_and(|fault| fault.reason == Reason::RandomAddress)
+}
+
 /// Notes the address of the first key that has a wrong one.
 fn refused_key<R: Record>(names: &Names, keys: &[R], peer: fn(&R) -> &Peer, see: &mut See) {
-    if let Some(key) = keys.iter().find(|key| key.fault() == Some(Reason::RandomAddress)) {
+    if let Some(key) = keys.iter().find(|key| is_outside(*key)) {
         refused(names, &peer(key).address, see);
     }
 }

@@ -1,6 +1,7 @@
 //! What a long enough run comes to: every refusal that each call can get.
 
 use reference::codes::command as code;
+use reference::command::is_global;
 use reference::reason::ArgumentFault as Fault;
 use reference::reason::Reason::{self, *};
 
@@ -8,26 +9,46 @@ use reference::reason::Reason::{self, *};
 fn reasons(code: u16) -> &'static [Reason] {
     match code {
         code::SET_POWERED => &[SettingValue, Busy, NoAddress],
-        code::SET_DISCOVERABLE => {
-            &[SettingValue, TimeoutGiven, TimeoutMissing, NotSupported, NotPowered, Busy, NotConnectable]
-        }
+        code::SET_DISCOVERABLE => &[
+            DiscoverableValue,
+            TimeoutGiven,
+            TimeoutMissing,
+            NoBrEdr,
+            DiscoverableUnpowered,
+            Busy,
+            NotConnectable,
+        ],
         code::SET_CONNECTABLE => &[SettingValue, Busy],
         code::SET_BONDABLE => &[SettingValue],
-        code::SET_LOW_ENERGY => &[SettingValue, NotSupported, Busy, OnlyLowEnergy],
-        code::SET_STATIC_ADDRESS => &[StaticAddress, NotSupported, Busy, Powered],
+        code::SET_LOW_ENERGY => &[SettingValue, NoLowEnergy, Busy, OnlyLowEnergy],
+        code::SET_STATIC_ADDRESS => &[StaticAddress, NoLowEnergy, Busy, Powered],
         code::SET_LOCAL_NAME => &[NameEnd, ShortNameEnd],
+        _ => list_reasons(code),
+    }
+}
+
+/// The same for the commands that are about tables and instances.
+fn list_reasons(code: u16) -> &'static [Reason] {
+    match code {
         code::ADD_UUID => &[ZeroUuid, NoFreeSlot],
-        code::REMOVE_UUID => &[Absent],
-        code::LOAD_LINK_KEYS => &[TooManyRecords, DebugFlag, AddressType, KeyType, Repeated, NotSupported],
-        code::LOAD_LONG_TERM_KEYS => {
-            &[TooManyRecords, AddressType, RandomAddress, KeyType, Master, KeySize, Repeated, NotSupported]
-        }
-        code::LOAD_IDENTITY_KEYS => &[TooManyRecords, AddressType, RandomAddress, Repeated, NotSupported],
+        code::REMOVE_UUID => &[AbsentUuid],
+        code::LOAD_LINK_KEYS => &[TooManyRecords, DebugFlag, BrEdrType, LinkKeyType, Repeated, NoBrEdr],
+        code::LOAD_LONG_TERM_KEYS => &[
+            TooManyRecords,
+            LowEnergyType,
+            RandomAddress,
+            LongTermKeyType,
+            Master,
+            KeySize,
+            Repeated,
+            NoLowEnergy,
+        ],
+        code::LOAD_IDENTITY_KEYS => &[TooManyRecords, LowEnergyType, RandomAddress, Repeated, NoLowEnergy],
         code::UNPAIR => &[AddressType, Disconnect, NotPowered, NotPaired],
         code::BLOCK => &[AddressType, ZeroAddress, AlreadyBlocked, NoFreeSlot],
-        code::UNBLOCK => &[AddressType, ZeroAddress, Absent],
+        code::UNBLOCK => &[AddressType, ZeroAddress, NotBlocked],
         code::ADD_DEVICE => &[AddressType, ZeroAddress, Action, ActionForType, NoFreeSlot],
-        code::REMOVE_DEVICE => &[AddressType, ZeroAddress, Absent],
+        code::REMOVE_DEVICE => &[AddressType, ZeroForAll, AbsentDevice],
         code::ADD_ADVERTISING => &[
             Instance,
             AdvertisingFlags,
@@ -36,7 +57,7 @@ fn reasons(code: u16) -> &'static [Reason] {
             LowEnergyOff,
             TimeoutUnpowered,
         ],
-        code::REMOVE_ADVERTISING => &[Absent],
+        code::REMOVE_ADVERTISING => &[AbsentInstance],
         _ => &[],
     }
 }
@@ -45,7 +66,8 @@ fn reasons(code: u16) -> &'static [Reason] {
 pub fn expected_refusals() -> Vec<(String, String)> {
     let mut out = Vec::new();
     for code in code::KNOWN {
-        let all = [&[InvalidIndex, WrongLength], reasons(code)].concat();
+        let index = if is_global(code) { HubIndex } else { ControllerIndex };
+        let all = [&[index, WrongLength], reasons(code)].concat();
         out.extend(all.iter().map(|reason| (format!("{code:#06x}"), format!("{reason:?}"))));
         out.push((format!("{code:#06x}"), "Room".into()));
     }
@@ -80,16 +102,16 @@ pub fn expected_orders() -> Vec<(String, String, String)> {
     let values = [Instance, AdvertisingFlags, AdvertisingLength, ScanResponseLength];
     let pairs: [(u16, &[Reason], &[Reason]); 13] = [
         (code::SET_POWERED, &[SettingValue], &[Busy]),
-        (code::SET_DISCOVERABLE, &[SettingValue, TimeoutGiven, TimeoutMissing], &[NotSupported, Busy]),
-        (code::SET_DISCOVERABLE, &[TimeoutMissing, NotSupported, NotPowered, Busy], &[NotConnectable]),
-        (code::SET_DISCOVERABLE, &[SettingValue, TimeoutGiven, NotSupported], &[NotPowered]),
-        (code::SET_DISCOVERABLE, &[NotSupported, NotPowered], &[Busy]),
-        (code::SET_LOW_ENERGY, &[SettingValue, NotSupported], &[Busy]),
+        (code::SET_DISCOVERABLE, &[DiscoverableValue, TimeoutGiven, TimeoutMissing], &[NoBrEdr, Busy]),
+        (code::SET_DISCOVERABLE, &[TimeoutMissing, NoBrEdr, DiscoverableUnpowered, Busy], &[NotConnectable]),
+        (code::SET_DISCOVERABLE, &[DiscoverableValue, TimeoutGiven, NoBrEdr], &[DiscoverableUnpowered]),
+        (code::SET_DISCOVERABLE, &[NoBrEdr, DiscoverableUnpowered], &[Busy]),
+        (code::SET_LOW_ENERGY, &[SettingValue, NoLowEnergy], &[Busy]),
         (code::SET_LOW_ENERGY, &[Busy], &[OnlyLowEnergy]),
-        (code::SET_STATIC_ADDRESS, &[StaticAddress, NotSupported, Busy], &[Powered]),
-        (code::SET_STATIC_ADDRESS, &[StaticAddress, NotSupported], &[Busy]),
-        (code::LOAD_LINK_KEYS, &[TooManyRecords, DebugFlag, KeyType, Repeated], &[NotSupported]),
-        (code::LOAD_LINK_KEYS, &[TooManyRecords], &[DebugFlag, AddressType, KeyType, Repeated]),
+        (code::SET_STATIC_ADDRESS, &[StaticAddress, NoLowEnergy, Busy], &[Powered]),
+        (code::SET_STATIC_ADDRESS, &[StaticAddress, NoLowEnergy], &[Busy]),
+        (code::LOAD_LINK_KEYS, &[TooManyRecords, DebugFlag, LinkKeyType, Repeated], &[NoBrEdr]),
+        (code::LOAD_LINK_KEYS, &[TooManyRecords], &[DebugFlag, BrEdrType, LinkKeyType, Repeated]),
         (code::UNPAIR, &[AddressType, Disconnect, NotPowered], &[NotPaired]),
         (code::ADD_ADVERTISING, &values, &[LowEnergyOff, TimeoutUnpowered]),
     ];

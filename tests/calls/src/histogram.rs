@@ -3,7 +3,9 @@
 
 use crate::addresses;
 use crate::lists::{Lists, IMAGES};
+use crate::packets::{Packets, PACKETS};
 use crate::situations::situations;
+use crate::whys::{note, Whys};
 use reference::codes::{answer, event, IMAGE_ROOM, REPLY_ROOM};
 use reference::packet::{little_endian, Packet, HEADER};
 use reference::{Call, Hub, Reply};
@@ -26,10 +28,14 @@ pub struct Histogram {
     pub events: BTreeMap<(String, String), usize>,
     /// By situation.
     pub situations: BTreeMap<&'static str, usize>,
+    /// By what is told of a packet, before it is given or after a list.
+    pub whys: Whys,
     /// All calls.
     pub calls: usize,
     /// Images loaded after the lists.
     pub images: usize,
+    /// Packets asked about after the lists.
+    pub packets: usize,
 }
 
 /// What is known of a call before it is made.
@@ -112,17 +118,24 @@ impl Note {
 }
 
 impl Histogram {
-    /// Runs so many random calls, with images after each list, and counts them.
+    /// Runs so many random calls, with packets to ask about and images after each list, and counts them.
     pub fn of_run(count: usize, seed: u64) -> Histogram {
-        let mut lists = Lists::new(seed);
+        let (mut lists, mut packets) = (Lists::new(seed), Packets::new(seed));
         let mut histogram = Histogram::default();
         while histogram.calls < count {
             let (_, mut hub) = lists.start();
             while let Some(call) = lists.next(&hub) {
+                if let Call::Command { packet, .. } = &call {
+                    note(&mut histogram.whys, &hub, packet);
+                }
                 let note = Note::new(&hub, &call);
                 let reply = hub.call(&call);
                 histogram.add(note, &call, &reply);
             }
+            for _ in 0..PACKETS {
+                note(&mut histogram.whys, &hub, &packets.next(&hub));
+            }
+            histogram.packets += PACKETS;
             for _ in 0..IMAGES {
                 histogram.add_image(&lists.image());
             }
@@ -167,7 +180,7 @@ impl Histogram {
 
 impl Display for Histogram {
     fn fmt(&self, out: &mut Formatter<'_>) -> Result {
-        writeln!(out, "{} calls, {} images", self.calls, self.images)?;
+        writeln!(out, "{} calls, {} packets, {} images", self.calls, self.packets, self.images)?;
         writeln!(out, "\ncall, answer, status:")?;
         for ((what, answer, status), count) in &self.statuses {
             let status = status.map(|status| format!("{status:#04x}")).unwrap_or("-".into());
@@ -184,6 +197,10 @@ impl Display for Histogram {
         writeln!(out, "\ncall, events written:")?;
         for ((what, events), count) in &self.events {
             writeln!(out, "{count:9}  {what}  {events}")?;
+        }
+        writeln!(out, "\ntold of a packet, place:")?;
+        for ((wording, form), count) in &self.whys {
+            writeln!(out, "{count:9}  {wording}  ({form})")?;
         }
         writeln!(out, "\nsituations:")?;
         for (situation, count) in &self.situations {

@@ -12,12 +12,14 @@ pub mod histogram;
 pub mod instances;
 pub mod lists;
 pub mod on_air;
+pub mod packets;
 pub mod parameters;
 pub mod pools;
 pub mod random;
 pub mod records;
 pub mod situations;
 pub mod spoiling;
+pub mod whys;
 
 pub use generator::Generator;
 pub use random::Random;

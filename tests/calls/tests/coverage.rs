@@ -1,8 +1,8 @@
-//! A run of 200,000 calls reaches every refusal and every situation.
+//! A run of 200,000 calls reaches every refusal, every wording of why with each form of place, and every situation.
 
 use calls::coverage::{expected_orders, expected_refusals};
 use calls::histogram::Histogram;
-use calls::{addresses, on_air, situations};
+use calls::{addresses, on_air, situations, whys};
 
 #[test]
 fn every_refusal_and_situation_is_reached() {
@@ -13,6 +13,9 @@ fn every_refusal_and_situation_is_reached() {
         }
         for order in expected_orders() {
             assert!(run.behind.contains_key(&order), "seed {seed}: {order:?} is missing");
+        }
+        for told in whys::expected() {
+            assert!(run.whys.contains_key(&told), "seed {seed}: {told:?} is missing");
         }
         let situations =
             situations::EXPECTED.into_iter().chain(on_air::EXPECTED).chain(addresses::expected());
@@ -28,6 +31,10 @@ fn no_refusal_is_reached_that_is_not_expected() {
     let expected = expected_refusals();
     for pair in run.reasons.keys() {
         assert!(expected.contains(pair), "{pair:?} is not expected");
+    }
+    let expected = whys::expected();
+    for told in run.whys.keys() {
+        assert!(expected.contains(told), "{told:?} is not expected");
     }
 }
 

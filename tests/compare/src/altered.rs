@@ -6,11 +6,14 @@ use crate::run::{same, step};
 use crate::schedule::{write, ADV_DATA, DURATIONS, EACH, OCTETS, SCAN_RSP, TIMEOUTS, TURN};
 use crate::switches::{read, LOW_ENERGY, POWERED};
 use crate::target::Target;
+use crate::why::why_agrees;
 use calls::instances::steps;
 use calls::Random;
 use reference::advertising::{Advertising, Instance, Turn, INSTANCES};
-use reference::codes::{answer, REPLY_ROOM};
+use reference::codes::{answer, command as code, REPLY_ROOM};
 use reference::controller::Controller;
+use reference::packet::frame;
+use reference::why::TEXT_ROOM;
 use reference::{Call, Hub, Reply};
 
 /// How many states are altered at each controller.
@@ -154,6 +157,7 @@ pub fn taken<T: Target>(
     same("on air", &hub.on_air(index, REPLY_ROOM), &found)?;
     let found = lent.name(index, 0, REPLY_ROOM, T::STATE_LEN)?;
     same("name", &hub.name(index, 0, REPLY_ROOM), &found)?;
+    why_agrees(lent, hub, &some_packet(index))?;
     step(lent, hub, call).map(|_| ()).map_err(|difference| format!("{call:?}: {difference}"))
 }
 
@@ -162,5 +166,11 @@ pub fn refused<T: Target>(lent: &mut Lent<T>, index: usize, call: &Call) -> Resu
     let expected = Reply::bare(answer::STATE);
     same("on air", &expected, &lent.on_air(index as u64, REPLY_ROOM, T::STATE_LEN)?)?;
     same("name", &expected, &lent.name(index as u64, 0, REPLY_ROOM, T::STATE_LEN)?)?;
+    same("why", &expected, &lent.why(&some_packet(index as u64), TEXT_ROOM, T::STATE_LEN)?.0)?;
     same("the call", &expected, &lent.call(call)?)
+}
+
+/// A packet to ask about: Set Powered, on.
+fn some_packet(index: u64) -> Vec<u8> {
+    frame(code::SET_POWERED, index as u16, &[1])
 }

@@ -93,6 +93,14 @@ impl<T: Target> Lent<T> {
         self.after_question(number, room, length)
     }
 
+    /// Asks why a packet would be refused, with a state buffer of a length; gives the second number too.
+    pub fn why(&mut self, packet: &[u8], room: usize, length: usize) -> Result<(Reply, u64), Difference> {
+        self.before_call(room);
+        let number = self.target.why(&self.state[..length], packet, &mut self.reply[..room]);
+        let (low, extra) = (number & 0xFFFF_FFFF, number >> 32);
+        Ok((self.after_question(low, room, length)?, extra))
+    }
+
     /// What a question gave; an error if the state changed.
     fn after_question(&self, number: u64, room: usize, length: usize) -> Result<Reply, Difference> {
         need(self.state == self.before, || "a question changed the state".into())?;

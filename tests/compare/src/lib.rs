@@ -20,8 +20,13 @@ pub mod switches;
 pub mod target;
 #[cfg(test)]
 mod tests;
+pub mod why;
+#[cfg(test)]
+mod why_tests;
 #[cfg(test)]
 mod wrong_rule;
+#[cfg(test)]
+mod wrong_why;
 
 pub use lent::Lent;
 pub use run::Comparison;

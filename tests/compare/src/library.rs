@@ -52,6 +52,15 @@ extern "C" {
     ) -> u64;
     /// What is on air is asked for.
     fn hub_on_air(state: *const u8, state_len: usize, index: u64, reply: *mut u8, reply_len: usize) -> u64;
+    /// Why a packet would be refused is asked for.
+    fn hub_why(
+        state: *const u8,
+        state_len: usize,
+        packet: *const u8,
+        packet_len: usize,
+        text: *mut u8,
+        text_len: usize,
+    ) -> u64;
     /// A state is made from an image.
     fn hub_load(state: *mut u8, state_len: usize, image: *const u8, image_len: usize) -> u64;
 }
@@ -102,6 +111,12 @@ impl Target for Library {
     fn on_air(&mut self, state: &[u8], index: u64, reply: &mut [u8]) -> u64 {
         // As above.
         unsafe { hub_on_air(state.as_ptr(), state.len(), index, reply.as_mut_ptr(), reply.len()) }
+    }
+
+    fn why(&mut self, state: &[u8], packet: &[u8], text: &mut [u8]) -> u64 {
+        let (state, state_len) = (state.as_ptr(), state.len());
+        // As above.
+        unsafe { hub_why(state, state_len, packet.as_ptr(), packet.len(), text.as_mut_ptr(), text.len()) }
     }
 
     fn load(&mut self, state: &mut [u8], image: &[u8]) -> u64 {

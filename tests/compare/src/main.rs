@@ -45,11 +45,12 @@ fn main() -> ExitCode {
     }
     let result = comparison.run(count);
     println!(
-        "{} calls in {} lists, {} calls of reduced lists, {} commands under way at an end, {} images, {} altered states ({} well formed), {:.1} s",
-        comparison.calls,
-        comparison.runs,
-        comparison.reduced,
-        comparison.left_open,
+        "{} calls in {} lists, {} calls of reduced lists, {} commands under way at an end",
+        comparison.calls, comparison.runs, comparison.reduced, comparison.left_open,
+    );
+    println!(
+        "{} packets asked about at an end, {} images, {} altered states ({} well formed), {:.1} s",
+        comparison.asked,
         comparison.images,
         comparison.altered.lent,
         comparison.altered.well_formed,

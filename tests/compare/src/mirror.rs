@@ -30,7 +30,7 @@ pub fn number(reply: &Reply, buffer: &mut [u8]) -> u64 {
 
 impl Mirror {
     /// The hub that a buffer stands for.
-    fn read(&self, state: &[u8]) -> Option<Hub> {
+    pub fn read(&self, state: &[u8]) -> Option<Hub> {
         let same = self.kept.iter().rev().find(|(kept, _)| kept == state);
         same.map(|(_, hub)| hub.clone()).or_else(|| self.read_altered(state))
     }
@@ -98,6 +98,16 @@ impl Target for Mirror {
     fn on_air(&mut self, state: &[u8], index: u64, reply: &mut [u8]) -> u64 {
         match self.read(state) {
             Some(hub) => number(&hub.on_air(index, reply.len()), reply),
+            None => answer::STATE.into(),
+        }
+    }
+
+    fn why(&mut self, state: &[u8], packet: &[u8], text: &mut [u8]) -> u64 {
+        match self.read(state) {
+            Some(hub) => {
+                let (reply, status) = hub.why(packet, text.len());
+                number(&reply, text) + (u64::from(status) << 32)
+            }
             None => answer::STATE.into(),
         }
     }

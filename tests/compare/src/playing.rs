@@ -33,13 +33,20 @@ pub fn play<T: Target>(example: &Example, target: T) -> Result<usize, String> {
     let mut lent = Lent::new(target);
     lent.load(&EMPTY)?;
     for line in &example.lines {
-        let came = match &line.step {
-            Step::Call(call) => lent.call(call)?,
-            Step::Load(image) => Reply::bare(lent.load(image)?),
-            Step::OnAir { index, room } => lent.on_air(*index, *room, T::STATE_LEN)?,
+        let (came, status) = match &line.step {
+            Step::Call(call) => (lent.call(call)?, 0),
+            Step::Load(image) => (Reply::bare(lent.load(image)?), 0),
+            Step::OnAir { index, room } => (lent.on_air(*index, *room, T::STATE_LEN)?, 0),
+            Step::Why { packet, room } => lent.why(packet, *room, T::STATE_LEN)?,
         };
+        let at = |difference| format!("line {}: {difference}", line.number);
         if let Some(difference) = difference(&line.gives, &came) {
-            return Err(format!("line {}: {difference}", line.number));
+            let text = String::from_utf8_lossy(&came.octets).into_owned();
+            let told = if matches!(line.step, Step::Why { .. }) { text } else { String::new() };
+            return Err(at(format!("{told} {difference}")));
+        }
+        if line.status != status {
+            return Err(at(format!("status {status} for {}", line.status)));
         }
     }
     Ok(example.lines.len())

@@ -5,7 +5,9 @@ use crate::layout::{cleared, encode, encode_at_once, same_state};
 use crate::lent::{Difference, Lent};
 use crate::questions::questions_agree;
 use crate::target::Target;
+use crate::why::{why_agrees, why_agrees_in_any_room, why_of_no_state};
 use calls::lists::{Lists, IMAGES};
+use calls::packets::{Packets, PACKETS};
 use calls::Random;
 use reference::codes::{answer, CONTROLLERS, IMAGE_ROOM, REPLY_ROOM};
 use reference::packet::Packet;
@@ -20,6 +22,8 @@ const OPEN_ENDS: usize = 3;
 pub struct Comparison<T: Target> {
     /// Where the lists come from.
     lists: Lists,
+    /// Where the packets that are asked about come from.
+    packets: Packets,
     /// Where the altered states come from.
     random: Random,
     /// The state buffer that the lists run on.
@@ -36,6 +40,8 @@ pub struct Comparison<T: Target> {
     pub reduced: usize,
     /// Commands that were under way at the end of a list.
     pub left_open: usize,
+    /// Packets asked about at the end of a list.
+    pub asked: usize,
     /// States lent with another advertising part.
     pub altered: Altered,
 }
@@ -64,8 +70,12 @@ pub fn same(what: &str, expected: &Reply, found: &Reply) -> Result<(), Differenc
     Err(format!("{what}\n  expected {}\n  found    {}", shown(expected), shown(found)))
 }
 
-/// Makes a call on both and compares what they give and their states, octet for octet.
+/// Makes a call on both and compares what they give and their states, octet for octet. Of a command it is asked first why it
+/// would be refused.
 pub fn step<T: Target>(lent: &mut Lent<T>, hub: &mut Hub, call: &Call) -> Result<Reply, Difference> {
+    if let Call::Command { packet, .. } = call {
+        why_agrees(lent, hub, packet)?;
+    }
     let expected = hub.call(call);
     let found = lent.call(call)?;
     same("the reply differs", &expected, &found)?;
@@ -98,6 +108,7 @@ impl<T: Target> Comparison<T> {
     pub fn new(seed: u64, target: T, other: T) -> Comparison<T> {
         Comparison {
             lists: Lists::new(seed),
+            packets: Packets::new(seed),
             random: Random::new(!seed),
             lent: Lent::new(target),
             at_once: Lent::new(other),
@@ -106,6 +117,7 @@ impl<T: Target> Comparison<T> {
             images: 0,
             reduced: 0,
             left_open: 0,
+            asked: 0,
             altered: Altered::default(),
         }
     }
@@ -147,8 +159,28 @@ impl<T: Target> Comparison<T> {
             }
         }
         let result = result.and_then(|()| self.finish(&image, &hub, &list));
-        let calls = || list.iter().map(|traced| traced.call.clone()).collect();
-        result.map_err(|difference| Failure { image, calls: calls(), difference })
+        let mut calls: Vec<Call> = list.into_iter().map(|traced| traced.call).collect();
+        let asked = result.is_ok().then(|| self.ask(&hub)).flatten();
+        let result = match asked {
+            None => result,
+            Some((packet, difference)) => {
+                calls.push(Call::Command { packet, room: REPLY_ROOM });
+                Err(difference)
+            }
+        };
+        result.map_err(|difference| Failure { image, calls, difference })
+    }
+
+    /// Asks why packets would be refused; gives the first that the two differ on, with the difference.
+    fn ask(&mut self, hub: &Hub) -> Option<(Vec<u8>, Difference)> {
+        for _ in 0..PACKETS {
+            let packet = self.packets.next(hub);
+            self.asked += 1;
+            if let Err(difference) = why_agrees_in_any_room(&mut self.lent, hub, &packet) {
+                return Some((packet, difference));
+            }
+        }
+        None
     }
 
     /// Loads the image that a list starts from, over whatever is there.
@@ -208,6 +240,7 @@ impl<T: Target> Comparison<T> {
             let found = self.lent.call(&call)?;
             same(&format!("a state of 0xFF: {call:?}"), &Reply::bare(answer::STATE), &found)?;
         }
+        why_of_no_state(&mut self.lent)?;
         for length in [0, T::STATE_LEN - 1, T::STATE_LEN + 1] {
             let found = self.lent.load_with_length(&calls::lists::EMPTY, length)?;
             if found != answer::STATE {

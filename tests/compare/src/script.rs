@@ -1,6 +1,7 @@
 //! Examples in words: calls, and what each gives. `examples/README.md` has the grammar.
 
-use reference::codes::{IMAGE_ROOM, REPLY_ROOM};
+use reference::codes::{answer, IMAGE_ROOM, REPLY_ROOM};
+use reference::why::TEXT_ROOM;
 use reference::{Call, Reply};
 
 /// A call of an example.
@@ -16,6 +17,13 @@ pub enum Step {
         /// Length of the reply buffer.
         room: usize,
     },
+    /// Why a packet would be refused is asked for.
+    Why {
+        /// The packet.
+        packet: Vec<u8>,
+        /// Length of the text buffer.
+        room: usize,
+    },
 }
 
 /// A call with what it gives.
@@ -26,6 +34,8 @@ pub struct Line {
     pub step: Step,
     /// Its answer and every octet that it writes.
     pub gives: Reply,
+    /// The status that it tells; 0 for every call but why.
+    pub status: u64,
 }
 
 /// An example: a list of calls from the fresh state.
@@ -50,12 +60,12 @@ pub fn examples(text: &str) -> Vec<Example> {
         let words: Vec<&str> = line.split_whitespace().collect();
         match words[0] {
             "room" => room = Some(value(words[1]) as usize),
-            "gives" => {
+            "gives" | "tells" => {
                 let (number, step) =
                     asked.take().unwrap_or_else(|| panic!("line {number}: no call gives this"));
-                let gives = Reply { answer: value(words[1]) as u8, octets: octets(&words[2..]) };
+                let (gives, status) = result(&words);
                 let example = examples.last_mut().expect("a title comes first");
-                example.lines.push(Line { number, step, gives });
+                example.lines.push(Line { number, step, gives, status });
             }
             _ => {
                 assert!(asked.is_none(), "line {number}: the call before gives nothing");
@@ -65,6 +75,15 @@ pub fn examples(text: &str) -> Vec<Example> {
     }
     assert!(asked.is_none(), "the last call gives nothing");
     examples
+}
+
+/// What a call gives, or the status and the text that a question tells.
+fn result(words: &[&str]) -> (Reply, u64) {
+    let number = value(words[1]);
+    match words[0] {
+        "tells" => (Reply { answer: answer::DONE, octets: words[2..].join(" ").into_bytes() }, number),
+        _ => (Reply { answer: number as u8, octets: octets(&words[2..]) }, 0),
+    }
 }
 
 /// The lines with their numbers, those that go on joined to the line before, comments left out.
@@ -89,6 +108,7 @@ fn step(words: &[&str], room: Option<usize>) -> Step {
     Step::Call(match words[0] {
         "load" => return Step::Load(octets(&words[1..])),
         "on-air" => return Step::OnAir { index: number(1), room: replies },
+        "why" => return Step::Why { packet: octets(&words[1..]), room: room.unwrap_or(TEXT_ROOM) },
         "command" => Call::Command { packet: octets(&words[1..]), room: replies },
         "report" => Call::Report { index: number(1), status: number(2), room: replies },
         "clock" => Call::Clock { reading: number(1) as u32, room: replies },

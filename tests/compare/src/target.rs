@@ -3,7 +3,7 @@
 use reference::Call;
 
 /// The calls of a hub whose state is a lent buffer. Each gives one number:
-/// answer + 256 x count.
+/// answer + 256 x count + 2^32 x a second number, which `why` alone gives.
 pub trait Target {
     /// The length of a state buffer.
     const STATE_LEN: usize;
@@ -16,6 +16,9 @@ pub trait Target {
 
     /// What the instance on air sends; the state is only read.
     fn on_air(&mut self, state: &[u8], index: u64, reply: &mut [u8]) -> u64;
+
+    /// Why a packet would be refused, in words; the state is only read.
+    fn why(&mut self, state: &[u8], packet: &[u8], text: &mut [u8]) -> u64;
 
     /// A load.
     fn load(&mut self, state: &mut [u8], image: &[u8]) -> u64;

@@ -140,6 +140,10 @@ impl Target for Faulty {
         number
     }
 
+    fn why(&mut self, state: &[u8], packet: &[u8], text: &mut [u8]) -> u64 {
+        self.inner.why(state, packet, text)
+    }
+
     fn load(&mut self, state: &mut [u8], image: &[u8]) -> u64 {
         let number = self.inner.load(state, image);
         match self.fault {

@@ -118,6 +118,11 @@ impl Target for WrongRule {
         otherwise.unwrap_or_else(|| self.inner.on_air(state, index, reply))
     }
 
+    fn why(&mut self, state: &[u8], packet: &[u8], text: &mut [u8]) -> u64 {
+        let otherwise = self.otherwise(Carrier::State, state, answer::STATE);
+        otherwise.unwrap_or_else(|| self.inner.why(state, packet, text))
+    }
+
     fn load(&mut self, state: &mut [u8], image: &[u8]) -> u64 {
         let otherwise = self.otherwise(Carrier::Image, image, answer::IMAGE);
         otherwise.unwrap_or_else(|| self.inner.load(state, image))

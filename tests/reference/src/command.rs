@@ -2,8 +2,10 @@
 
 use crate::codes::command as code;
 use crate::controller::LocalName;
-use crate::packet::{little_endian, Packet};
+use crate::packet::{little_endian, Packet, HEADER};
+use crate::reason::Reason;
 use crate::records::{Address, Device, IdentityKey, LinkKey, LongTermKey, Peer, Record, Service};
+use crate::why::{Fault, LENGTH};
 
 /// A command to one controller, its parameters of the right length. The values
 /// are as received: nothing is checked here.
@@ -86,16 +88,23 @@ pub struct NewInstance {
 impl NewInstance {
     /// The octets before Adv_Data.
     const FIXED: usize = 11;
+    /// The parameter octet that is Adv_Data_Len.
+    pub const DATA_LENGTH: usize = 9;
+    /// The parameter octet that is Scan_Rsp_Len.
+    pub const SCAN_LENGTH: usize = 10;
 
     /// Whether the octets are as many as the two lengths among them say.
     fn length_fits(octets: &[u8]) -> bool {
         octets.len() >= Self::FIXED
-            && octets.len() == Self::FIXED + usize::from(octets[9]) + usize::from(octets[10])
+            && octets.len()
+                == Self::FIXED
+                    + usize::from(octets[Self::DATA_LENGTH])
+                    + usize::from(octets[Self::SCAN_LENGTH])
     }
 
     /// Reads parameters whose length fits.
     fn read(octets: &[u8]) -> NewInstance {
-        let (data, scan_response) = octets[Self::FIXED..].split_at(octets[9].into());
+        let (data, scan_response) = octets[Self::FIXED..].split_at(octets[Self::DATA_LENGTH].into());
         NewInstance {
             instance: octets[0],
             flags: u32::from_le_bytes([octets[1], octets[2], octets[3], octets[4]]),
@@ -144,8 +153,26 @@ fn fixed_length(code: u16) -> usize {
     }
 }
 
+/// The octet of a packet where the count of a key list begins.
+pub fn count_octet(code: u16) -> Option<usize> {
+    list_shape(code).map(|(before, _)| HEADER + before - 2)
+}
+
+/// What is wrong with the length of a known command, if anything is. Its length field clashes with a count or with the
+/// lengths of data, the last of which is at fault where it is in the packet; else the length field itself is.
+pub fn length_fault(packet: &Packet) -> Option<Fault> {
+    let length = packet.parameters.len();
+    let (fixed, last) = match list_shape(packet.code) {
+        Some((before, _)) => (before, before - 2),
+        None if packet.code == code::ADD_ADVERTISING => (NewInstance::FIXED, NewInstance::SCAN_LENGTH),
+        None => (usize::MAX, 0),
+    };
+    let octet = if length >= fixed { HEADER + last } else { LENGTH };
+    (!length_fits(packet)).then_some(Fault::at(Reason::WrongLength, octet))
+}
+
 /// Whether the parameters of a known command have the length it takes.
-pub fn length_fits(packet: &Packet) -> bool {
+fn length_fits(packet: &Packet) -> bool {
     let length = packet.parameters.len();
     if packet.code == code::ADD_ADVERTISING {
         return NewInstance::length_fits(packet.parameters);

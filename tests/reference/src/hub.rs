@@ -8,6 +8,7 @@ use crate::image;
 use crate::packet::{command_status, Packet};
 use crate::reason::{ArgumentFault, Reason};
 use crate::state::{State, Verdict};
+use crate::why::{self, Fault, TEXT_ROOM};
 
 /// The reference hub.
 #[derive(Clone, PartialEq, Eq, Hash, Debug, Default)]
@@ -90,13 +91,32 @@ impl Hub {
         }
     }
 
-    /// Every reason that stands against a packet, the one that answers first;
-    /// none for a packet that is done, started or answered 3.
-    pub fn reasons(&self, packet: &[u8]) -> Vec<Reason> {
+    /// What each check has against a packet, the one that answers first; none
+    /// for a packet that is done, started or answered 3.
+    pub fn faults(&self, packet: &[u8]) -> Vec<Fault> {
         match Packet::read(packet) {
-            Some(packet) => self.state.reasons(&packet, self.busy()),
+            Some(packet) => self.state.faults(&packet, self.busy()),
             None => Vec::new(),
         }
+    }
+
+    /// The reasons of these.
+    pub fn reasons(&self, packet: &[u8]) -> Vec<Reason> {
+        self.faults(packet).iter().map(|fault| fault.reason).collect()
+    }
+
+    /// Why a command would be refused, in words, and the status of the refusal, 0 if it would be taken. A host asks
+    /// for this; nothing changes.
+    pub fn why(&self, packet: &[u8], room: usize) -> (Reply, u8) {
+        if let Some(reply) = room_fault(room, TEXT_ROOM) {
+            return (reply, 0);
+        }
+        if Packet::read(packet).is_none() {
+            return (Reply::bare(answer::PACKET), 0);
+        }
+        let fault = self.faults(packet).first().copied();
+        let status = fault.map_or(status::SUCCESS, |fault| fault.reason.status());
+        (done(why::text(fault).into_bytes()), status)
     }
 
     /// Why a report is refused, if it is.

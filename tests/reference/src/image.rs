@@ -164,8 +164,8 @@ fn load_table<R: Record>(rest: &mut Rest, place: u8, supported: bool) -> Result<
     need(count <= SLOTS, ImageFault::TableCount(place))?;
     let octets = rest.take(count * R::LEN)?;
     let records: Vec<R> = octets.chunks_exact(R::LEN).map(R::read).collect();
-    if let Some(reason) = list_fault(&records) {
-        return Err(ImageFault::Record(place, reason));
+    if let Some(fault) = list_fault(&records) {
+        return Err(ImageFault::Record(place, fault.reason));
     }
     need(supported || count == 0, ImageFault::TableUnsupported(place))?;
     Ok(Table::of(&records))

@@ -21,8 +21,10 @@ pub mod records;
 pub mod reduction;
 pub mod state;
 pub mod table;
+pub mod why;
 
 pub use at_once::AtOnceHub;
 pub use call::{Call, Reply, Traced};
 pub use hub::Hub;
 pub use reduction::reduce;
+pub use why::Fault;

@@ -7,14 +7,18 @@ use crate::codes::status;
 pub enum Reason {
     /// The code is none of the 23.
     UnknownCommand,
-    /// The index is not the one wanted, or no controller is there.
-    InvalidIndex,
+    /// A command about no controller with another index than 0xFFFF.
+    HubIndex,
+    /// No controller is at the index.
+    ControllerIndex,
     /// The parameters have another length than the command takes.
     WrongLength,
     /// A list of more than 32 records.
     TooManyRecords,
-    /// A switch that is not 0 or 1, or a discoverable mode above 2.
+    /// A switch that is not 0 or 1.
     SettingValue,
+    /// A discoverable mode above 2.
+    DiscoverableValue,
     /// Discoverable off with a timeout.
     TimeoutGiven,
     /// Limited discoverable without a timeout.
@@ -29,10 +33,16 @@ pub enum Reason {
     ZeroUuid,
     /// A debug flag that is not 0 or 1.
     DebugFlag,
-    /// An address type that the command does not take.
+    /// A link key whose address type is not BR/EDR.
+    BrEdrType,
+    /// An LE key whose address type is not LE Public or LE Random.
+    LowEnergyType,
+    /// An address type above the last.
     AddressType,
-    /// A key type above the last.
-    KeyType,
+    /// A type of a link key above the last.
+    LinkKeyType,
+    /// A type of a long term key above the last.
+    LongTermKeyType,
     /// A Master octet that is not 0 or 1.
     Master,
     /// An encryption size outside 7 to 16.
@@ -45,6 +55,8 @@ pub enum Reason {
     Disconnect,
     /// A zero address where a device is to be named.
     ZeroAddress,
+    /// A zero address, for all devices, with another type than BR/EDR.
+    ZeroForAll,
     /// An action above 2.
     Action,
     /// A BR/EDR device with another action than 1.
@@ -57,8 +69,12 @@ pub enum Reason {
     AdvertisingLength,
     /// Scan_Rsp of more than 31 octets.
     ScanResponseLength,
-    /// The controller lacks BR/EDR or LE.
-    NotSupported,
+    /// The controller lacks BR/EDR.
+    NoBrEdr,
+    /// The controller lacks LE.
+    NoLowEnergy,
+    /// A discoverable timeout without power.
+    DiscoverableUnpowered,
     /// The controller is not powered.
     NotPowered,
     /// A command is under way at this index.
@@ -81,20 +97,80 @@ pub enum Reason {
     AlreadyBlocked,
     /// All 32 slots are taken.
     NoFreeSlot,
-    /// Nothing of that name to remove.
-    Absent,
+    /// No such UUID to remove.
+    AbsentUuid,
+    /// The device to unblock is not blocked.
+    NotBlocked,
+    /// No such device to remove.
+    AbsentDevice,
+    /// No such advertising instance to remove.
+    AbsentInstance,
 }
 
 impl Reason {
+    /// All of them.
+    pub const ALL: [Reason; 50] = [
+        Reason::UnknownCommand,
+        Reason::HubIndex,
+        Reason::ControllerIndex,
+        Reason::WrongLength,
+        Reason::TooManyRecords,
+        Reason::SettingValue,
+        Reason::DiscoverableValue,
+        Reason::TimeoutGiven,
+        Reason::TimeoutMissing,
+        Reason::StaticAddress,
+        Reason::NameEnd,
+        Reason::ShortNameEnd,
+        Reason::ZeroUuid,
+        Reason::DebugFlag,
+        Reason::BrEdrType,
+        Reason::LowEnergyType,
+        Reason::AddressType,
+        Reason::LinkKeyType,
+        Reason::LongTermKeyType,
+        Reason::Master,
+        Reason::KeySize,
+        Reason::RandomAddress,
+        Reason::Repeated,
+        Reason::Disconnect,
+        Reason::ZeroAddress,
+        Reason::ZeroForAll,
+        Reason::Action,
+        Reason::ActionForType,
+        Reason::Instance,
+        Reason::AdvertisingFlags,
+        Reason::AdvertisingLength,
+        Reason::ScanResponseLength,
+        Reason::NoBrEdr,
+        Reason::NoLowEnergy,
+        Reason::DiscoverableUnpowered,
+        Reason::NotPowered,
+        Reason::Busy,
+        Reason::NoAddress,
+        Reason::NotConnectable,
+        Reason::OnlyLowEnergy,
+        Reason::Powered,
+        Reason::LowEnergyOff,
+        Reason::TimeoutUnpowered,
+        Reason::NotPaired,
+        Reason::AlreadyBlocked,
+        Reason::NoFreeSlot,
+        Reason::AbsentUuid,
+        Reason::NotBlocked,
+        Reason::AbsentDevice,
+        Reason::AbsentInstance,
+    ];
+
     /// The status octet that tells the host of this reason.
     pub fn status(self) -> u8 {
         use Reason::*;
         match self {
             UnknownCommand => status::UNKNOWN_COMMAND,
-            InvalidIndex => status::INVALID_INDEX,
+            HubIndex | ControllerIndex => status::INVALID_INDEX,
             TooManyRecords | NoFreeSlot => status::NO_RESOURCES,
-            NotSupported => status::NOT_SUPPORTED,
-            NotPowered => status::NOT_POWERED,
+            NoBrEdr | NoLowEnergy => status::NOT_SUPPORTED,
+            DiscoverableUnpowered | NotPowered => status::NOT_POWERED,
             Busy => status::BUSY,
             NoAddress | NotConnectable | OnlyLowEnergy | Powered | LowEnergyOff | TimeoutUnpowered => {
                 status::REJECTED

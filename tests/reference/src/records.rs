@@ -2,6 +2,7 @@
 //! images, and which of them are acceptable.
 
 use crate::reason::Reason;
+use crate::why::{found, Fault, Place};
 
 /// A Bluetooth device address in packet order: the sixth octet is the highest.
 pub type Address = [u8; 6];
@@ -24,8 +25,8 @@ pub trait Record: Clone {
     /// Adds the octets of the entry.
     fn write(&self, out: &mut Vec<u8>);
 
-    /// The first rule that the entry breaks by itself.
-    fn fault(&self) -> Option<Reason>;
+    /// The first rule that the entry breaks by itself, in the order of its octets.
+    fn fault(&self) -> Option<Fault>;
 
     /// Whether both entries name the same thing.
     fn names_same(&self, other: &Self) -> bool;
@@ -59,6 +60,9 @@ pub struct Peer {
 }
 
 impl Peer {
+    /// The octet of the type, behind the address.
+    pub const TYPE: usize = 6;
+
     /// Whether the address is zero.
     pub fn is_zero(&self) -> bool {
         self.address == [0; 6]
@@ -72,18 +76,19 @@ impl Peer {
     }
 
     /// What an LE key list takes: an identity address, public or static random.
-    fn identity_fault(&self) -> Option<Reason> {
-        match self.address_type {
-            LE_PUBLIC => None,
-            LE_RANDOM if is_static_random(&self.address) => None,
-            LE_RANDOM => Some(Reason::RandomAddress),
-            _ => Some(Reason::AddressType),
-        }
+    fn identity_fault(&self) -> Option<Fault> {
+        let reason = match self.address_type {
+            LE_PUBLIC => return None,
+            LE_RANDOM if is_static_random(&self.address) => return None,
+            LE_RANDOM => Reason::RandomAddress,
+            _ => Reason::LowEnergyType,
+        };
+        Some(Fault::at(reason, Peer::TYPE))
     }
 
     /// What every command about one device takes: a type of 0 to 2.
-    pub fn type_fault(&self) -> Option<Reason> {
-        (self.address_type > LE_RANDOM).then_some(Reason::AddressType)
+    pub fn type_fault(&self) -> Option<Fault> {
+        found(self.address_type > LE_RANDOM, Reason::AddressType, Peer::TYPE)
     }
 }
 
@@ -99,8 +104,8 @@ impl Record for Peer {
         out.push(self.address_type);
     }
 
-    fn fault(&self) -> Option<Reason> {
-        self.type_fault().or(self.is_zero().then_some(Reason::ZeroAddress))
+    fn fault(&self) -> Option<Fault> {
+        found(self.is_zero(), Reason::ZeroAddress, 0).or(self.type_fault())
     }
 
     fn names_same(&self, other: &Peer) -> bool {
@@ -129,8 +134,8 @@ impl Record for Service {
         out.push(self.hint);
     }
 
-    fn fault(&self) -> Option<Reason> {
-        (self.uuid == [0; 16]).then_some(Reason::ZeroUuid)
+    fn fault(&self) -> Option<Fault> {
+        found(self.uuid == [0; 16], Reason::ZeroUuid, 0)
     }
 
     fn names_same(&self, other: &Service) -> bool {
@@ -170,12 +175,12 @@ impl Record for LinkKey {
         out.push(self.pin_length);
     }
 
-    fn fault(&self) -> Option<Reason> {
-        if self.peer.address_type != BR_EDR {
-            Some(Reason::AddressType)
-        } else {
-            (self.key_type > 8).then_some(Reason::KeyType)
-        }
+    fn fault(&self) -> Option<Fault> {
+        found(self.peer.address_type != BR_EDR, Reason::BrEdrType, Peer::TYPE).or(found(
+            self.key_type > 8,
+            Reason::LinkKeyType,
+            7,
+        ))
     }
 
     fn names_same(&self, other: &LinkKey) -> bool {
@@ -225,16 +230,11 @@ impl Record for LongTermKey {
         out.extend_from_slice(&self.value);
     }
 
-    fn fault(&self) -> Option<Reason> {
-        if let Some(reason) = self.peer.identity_fault() {
-            Some(reason)
-        } else if self.key_type > 4 {
-            Some(Reason::KeyType)
-        } else if self.master > 1 {
-            Some(Reason::Master)
-        } else {
-            (!(7..=16).contains(&self.size)).then_some(Reason::KeySize)
-        }
+    fn fault(&self) -> Option<Fault> {
+        let peer = self.peer.identity_fault();
+        peer.or(found(self.key_type > 4, Reason::LongTermKeyType, 7))
+            .or(found(self.master > 1, Reason::Master, 8))
+            .or(found(!(7..=16).contains(&self.size), Reason::KeySize, 9))
     }
 
     fn names_same(&self, other: &LongTermKey) -> bool {
@@ -263,7 +263,7 @@ impl Record for IdentityKey {
         out.extend_from_slice(&self.value);
     }
 
-    fn fault(&self) -> Option<Reason> {
+    fn fault(&self) -> Option<Fault> {
         self.peer.identity_fault()
     }
 
@@ -293,15 +293,10 @@ impl Record for Device {
         out.push(self.action);
     }
 
-    fn fault(&self) -> Option<Reason> {
-        if let Some(reason) = self.peer.fault() {
-            Some(reason)
-        } else if self.action > 2 {
-            Some(Reason::Action)
-        } else {
-            let wrong = self.peer.address_type == BR_EDR && self.action != 1;
-            wrong.then_some(Reason::ActionForType)
-        }
+    fn fault(&self) -> Option<Fault> {
+        let clash = self.peer.address_type == BR_EDR && self.action != 1;
+        let peer = self.peer.fault();
+        peer.or(found(self.action > 2, Reason::Action, 7)).or(found(clash, Reason::ActionForType, 7))
     }
 
     fn names_same(&self, other: &Device) -> bool {
@@ -310,14 +305,22 @@ impl Record for Device {
 }
 
 /// The first rule that a list of entries breaks: one by itself, or two that
-/// name the same thing.
-pub fn list_fault<R: Record>(records: &[R]) -> Option<Reason> {
-    let alone = records.iter().find_map(|record| record.fault());
-    alone.or_else(|| has_repeat(records).then_some(Reason::Repeated))
+/// name the same thing. Octets are counted from the first entry on.
+pub fn list_fault<R: Record>(records: &[R]) -> Option<Fault> {
+    let of_record = |(place, record): (usize, &R)| Some(record.fault()?.in_record(place, R::LEN));
+    let alone = records.iter().enumerate().find_map(of_record);
+    alone.or_else(|| {
+        let (earlier, later) = first_pair(records)?;
+        Some(Fault { reason: Reason::Repeated, place: Place::Records(earlier, later) })
+    })
 }
 
-/// Whether two of the entries name the same thing.
-fn has_repeat<R: Record>(records: &[R]) -> bool {
-    let repeated = |k: usize| records[..k].iter().any(|earlier| earlier.names_same(&records[k]));
-    (0..records.len()).any(repeated)
+/// The first entry that a later one repeats, with the first that does.
+fn first_pair<R: Record>(records: &[R]) -> Option<(usize, usize)> {
+    let repeated = |earlier: usize| {
+        let later =
+            (earlier + 1..records.len()).find(|later| records[earlier].names_same(&records[*later]))?;
+        Some((earlier, later))
+    };
+    (0..records.len()).find_map(repeated)
 }

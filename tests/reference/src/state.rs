@@ -1,12 +1,13 @@
 //! The clock and the controllers: what both hubs share, open commands aside.
 
-use crate::checks::{all_reasons, is_started, refusal, Case};
+use crate::checks::{all_faults, is_started, refusal, Case};
 use crate::codes::{command as code, event, CONTROLLERS, NON_CONTROLLER};
-use crate::command::{is_global, is_known, length_fits, Command};
+use crate::command::{is_global, is_known, length_fault, Command};
 use crate::controller::{Controller, Hardware};
 use crate::effects::{act, advertising_removed, new_settings};
 use crate::packet::{command_complete, command_status, frame, success, Packet};
 use crate::reason::{ArgumentFault, Reason};
+use crate::why::{found, Fault, CODE, INDEX};
 
 /// The last clock reading and up to four controllers.
 #[derive(Clone, PartialEq, Eq, Hash, Debug, Default)]
@@ -21,7 +22,7 @@ pub struct State {
 #[derive(Debug)]
 pub enum Verdict {
     /// Refused, with this one reply.
-    Refused(Reason, Vec<u8>),
+    Refused(Fault, Vec<u8>),
     /// Answered at once, about no controller.
     Answered(Vec<u8>),
     /// Nothing stands against it.
@@ -48,26 +49,22 @@ impl State {
     }
 
     /// The checks before the values: code, index, length.
-    fn early_refusal(&self, packet: &Packet) -> Option<Reason> {
-        let there = if is_global(packet.code) {
-            packet.index == NON_CONTROLLER
+    fn early_refusal(&self, packet: &Packet) -> Option<Fault> {
+        let (reason, there) = if is_global(packet.code) {
+            (Reason::HubIndex, packet.index == NON_CONTROLLER)
         } else {
-            self.controller(packet.index.into()).is_some()
+            (Reason::ControllerIndex, self.controller(packet.index.into()).is_some())
         };
-        if !is_known(packet.code) {
-            Some(Reason::UnknownCommand)
-        } else if !there {
-            Some(Reason::InvalidIndex)
-        } else {
-            (!length_fits(packet)).then_some(Reason::WrongLength)
-        }
+        found(!is_known(packet.code), Reason::UnknownCommand, CODE)
+            .or(found(!there, reason, INDEX))
+            .or_else(|| length_fault(packet))
     }
 
     /// Judges a packet. `busy` tells at which indexes a command is under way.
     pub fn judge(&self, packet: &Packet, busy: [bool; CONTROLLERS]) -> Verdict {
-        if let Some(reason) = self.early_refusal(packet) {
-            let reply = command_status(packet.index, packet.code, reason.status());
-            return Verdict::Refused(reason, reply);
+        if let Some(fault) = self.early_refusal(packet) {
+            let reply = command_status(packet.index, packet.code, fault.reason.status());
+            return Verdict::Refused(fault, reply);
         }
         let Some(controller) = self.controller(packet.index.into()) else {
             return Verdict::Answered(self.answer_global(packet.code));
@@ -76,7 +73,7 @@ impl State {
         let index = usize::from(packet.index);
         let case = Case { controller, busy: busy[index], command: &command };
         match refusal(&case) {
-            Some(reason) => Verdict::Refused(reason, refusal_reply(packet, &command, reason)),
+            Some(fault) => Verdict::Refused(fault, refusal_reply(packet, &command, fault.reason)),
             None => {
                 let started = is_started(controller, &command);
                 Verdict::Accepted { index, command, started }
@@ -84,15 +81,15 @@ impl State {
         }
     }
 
-    /// Every reason that stands against a packet, the one that answers first.
-    pub fn reasons(&self, packet: &Packet, busy: [bool; CONTROLLERS]) -> Vec<Reason> {
-        if let Some(reason) = self.early_refusal(packet) {
-            return vec![reason];
+    /// What each check has against a packet, the one that answers first.
+    pub fn faults(&self, packet: &Packet, busy: [bool; CONTROLLERS]) -> Vec<Fault> {
+        if let Some(fault) = self.early_refusal(packet) {
+            return vec![fault];
         }
         match self.controller(packet.index.into()) {
             Some(controller) => {
                 let busy = busy[usize::from(packet.index)];
-                all_reasons(&Case { controller, busy, command: &Command::read(packet) })
+                all_faults(&Case { controller, busy, command: &Command::read(packet) })
             }
             None => Vec::new(),
         }

@@ -114,7 +114,7 @@ fn values_stand_in_the_order_of_their_octets() {
 fn low_energy_off_is_rejected_also_where_it_is_not_supported() {
     let mut classic = powered_hub(CLASSIC);
     refuse(&mut classic, 0x003E, &instance(1, 2, 0, &[], &[]), REJECTED, Reason::LowEnergyOff);
-    refuse(&mut classic, 0x003F, &[1], INVALID, Reason::Absent);
+    refuse(&mut classic, 0x003F, &[1], INVALID, Reason::AbsentInstance);
     assert_eq!(send(&mut classic, 0x003F, 0, &[0]), done(complete(0x003F, 0, 0, &[0])));
     let mut hub = hub_with(DUAL);
     refuse(&mut hub, 0x003E, &instance(1, 2, 1, &[], &[]), REJECTED, Reason::TimeoutUnpowered);
@@ -153,10 +153,10 @@ fn neither_command_is_ever_busy() {
 fn removal_of_one_of_all_and_of_none() {
     let mut hub = hub_of(&[(4, 2, 0), (1, 2, 9), (3, 2, 0)]);
     for absent in [2, 5, 6, 0xFF] {
-        refuse(&mut hub, 0x003F, &[absent], INVALID, Reason::Absent);
+        refuse(&mut hub, 0x003F, &[absent], INVALID, Reason::AbsentInstance);
     }
     assert_eq!(send(&mut hub, 0x003F, 0, &[3]), done([complete(0x003F, 0, 0, &[3]), removed(&[3])].concat()));
-    refuse(&mut hub, 0x003F, &[3], INVALID, Reason::Absent);
+    refuse(&mut hub, 0x003F, &[3], INVALID, Reason::AbsentInstance);
     let all = [complete(0x003F, 0, 0, &[0]), removed(&[1, 4])].concat();
     assert_eq!(send(&mut hub, 0x003F, 0, &[0]), done(all));
     assert_eq!(send(&mut hub, 0x003F, 0, &[0]), done(complete(0x003F, 0, 0, &[0])));

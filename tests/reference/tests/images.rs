@@ -169,16 +169,16 @@ fn refuse_record(place: usize, at: usize, value: u8, reason: Reason) {
 
 #[test]
 fn record_rules() {
-    refuse_record(1, 6, 1, Reason::AddressType);
-    refuse_record(1, 7, 9, Reason::KeyType);
-    refuse_record(2, 6, 0, Reason::AddressType);
-    refuse_record(2, 6, 3, Reason::AddressType);
+    refuse_record(1, 6, 1, Reason::BrEdrType);
+    refuse_record(1, 7, 9, Reason::LinkKeyType);
+    refuse_record(2, 6, 0, Reason::LowEnergyType);
+    refuse_record(2, 6, 3, Reason::LowEnergyType);
     refuse_record(2, 5, 0xBF, Reason::RandomAddress);
-    refuse_record(2, 7, 5, Reason::KeyType);
+    refuse_record(2, 7, 5, Reason::LongTermKeyType);
     refuse_record(2, 8, 2, Reason::Master);
     refuse_record(2, 9, 6, Reason::KeySize);
     refuse_record(2, 9, 17, Reason::KeySize);
-    refuse_record(3, 6, 0, Reason::AddressType);
+    refuse_record(3, 6, 0, Reason::LowEnergyType);
     refuse_record(3, 5, 0x3F, Reason::RandomAddress);
     refuse_record(4, 6, 3, Reason::AddressType);
     refuse_record(5, 6, 3, Reason::AddressType);
