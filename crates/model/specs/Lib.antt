@@ -8,6 +8,7 @@ pub mod State
 pub mod Answers
 pub mod Reasons
 pub mod Tables
+pub mod LookUp
 pub mod Rules
 pub mod Immediate
 pub mod Commands
@@ -24,5 +25,6 @@ pub mod EasyErrors
 pub mod LazyPrograms
 pub mod Rotation
 pub mod StaticAddresses
+pub mod WalkedSlots
 pub mod Proof
 pub mod Theorems

@@ -24,6 +24,7 @@ pub mod Written
 pub mod Reading
 pub mod Names
 pub mod OnAir
+pub mod LookUp
 pub mod Waiting
 pub mod Fairness
 pub mod InTime

@@ -1,26 +1,27 @@
 -- The theorems, over the octets of the lent state, each by name. The proofs are in Proof/.
-use Prim.Native.Nat.{ℕ, _^_, _≤_, _<_}
+use Prim.Native.Nat.{ℕ, suc, _/_, _%_, _^_, _≤_, _<_}
 use native.Mathlib.Omega.{arith}
 use mathlib.Core.Path.{_≡_, refl, sym, ap, _∙_}
-use mathlib.Core.Bool.{true, false}
-use mathlib.Core.List.{List, [], map}
+use mathlib.Core.Bool.{Bool, true, false}
+use mathlib.Core.List.{List, [], _∷_, map}
 use mathlib.Core.Logic.{_↔_}
-use mathlib.Core.Option.{some}
-use lib.ListN.{length, drop}
+use mathlib.Core.Option.{none, some}
+use lib.ListN.{length, getD, take, drop}
 use lib.Dec.{eqb, leb, ltb, lit≤}
 use Rattle.model.specs.Lengths as Lengths
 use Rattle.model.specs.Octets.{Octets, bytes, octet, open-octets, usedPart}
 use Rattle.model.specs.Advertising.{open-advertising}
-use Rattle.model.specs.State.{Hub, PlainHub, idle, open-state}
+use Rattle.model.specs.State.{Hub, PlainHub, Table, idle, open-state}
 use Rattle.model.specs.Reasons.{open-reasons}
-use Rattle.model.specs.Tables.{open-tables}
+use Rattle.model.specs.Tables.{entries, holds, longTermKeys, open-tables, ruleAt}
+use Rattle.model.specs.LookUp.{keyLength, lookUp}
 use Rattle.model.specs.Commands.{Row, commandCodes, rows}
 use Rattle.model.specs.Image.{image, load, open-image, reloadedHub}
 use Rattle.model.specs.Hub.{Call, Outcome, Result, answerOf, call, callPlain, clock, command, keep, octetsOf, plug, report, save, stateOf, unplug, within}
 use Rattle.model.specs.WellFormed.{callWide, open-wellformed, plainOk, wellFormed}
 use Rattle.model.specs.Layout.{decode, encode}
-use Rattle.model.specs.Meanings.{badState, hubLoad, hubName, hubOnAir, hubSave, laidOut, loadMeaning, loadedInto, meaning, stateOk}
-use Rattle.model.specs.Written.{ReadAnswer, OneReply, Written, loadAnswer, roomOf}
+use Rattle.model.specs.Meanings.{badState, hubLoad, hubLookUp, hubName, hubOnAir, hubSave, laidOut, loadMeaning, loadedInto, toldLookUp, meaning, stateOk}
+use Rattle.model.specs.Written.{LookUpAnswer, ReadAnswer, OneReply, Written, loadAnswer, roomOf}
 use Rattle.model.specs.Demand3.{Demand3}
 use Rattle.model.specs.Fairness.{Fairness, InTime}
 use Rattle.model.specs.Examples.{dualHardware, fullController, fullHub, fullTable, records}
@@ -29,6 +30,8 @@ use Rattle.model.specs.Proof.Demand3.{demand3, encode-ok, idle-ok, meani
 use Rattle.model.specs.Proof.InTime.{fairness, in-time}
 use Rattle.model.specs.Proof.Keeps.{keeps-state, load-refused-same, load-state, refused-same, state-exact}
 use Rattle.model.specs.Proof.Load.{load-ok}
+use Rattle.model.specs.Proof.LookUp.{first-matches, first-of-none, keyed, keyed-by-master, look-up-answered, looked-back, none-before-first}
+use Rattle.model.specs.Proof.LookUp.{walk-ends, walked-all, walked-found}
 use Rattle.model.specs.Proof.Names.{name-answered, name-most, name-no-zero, name-same, used-ends}
 use Rattle.model.specs.Proof.OnAir.{on-air-answered, on-air-most, on-air-same}
 use Rattle.model.specs.Proof.Room.{notSave, room-state}
@@ -242,3 +245,40 @@ comes-on-air = fairness
 -- Once that many seconds have passed, it was on air at some moment.
 pub on-air-in-time : InTime
 on-air-in-time = in-time
+
+-- Look-ups -----------------------------------------------------------------------------------------------------------------------------------------
+
+-- A look-up that finds: the slot told holds a record that matches, no record before it does, and the walk ends there.
+pub look-up-finds : (m : Octets → Bool) (t : Table) → holds m t ≡ true
+    → ((r : Octets) × (getD t (lookUp m t .slot) none ≡ some r) × (m r ≡ true)) × (holds m (take (lookUp m t .slot) t) ≡ false)
+    × (lookUp m t .walked ≡ suc (lookUp m t .slot))
+unfolding lookUp
+look-up-finds m t e = (first-matches m t e, none-before-first m t, walked-found m t e)
+
+-- One that does not: the slot told is the number of slots, and the walk has seen every record.
+pub look-up-misses : (m : Octets → Bool) (t : Table) → holds m t ≡ false
+    → (lookUp m t .slot ≡ length t) × (entries (take (lookUp m t .walked) t) ≡ entries t)
+unfolding lookUp
+look-up-misses m t e = (first-of-none m t e, walked-all m t e)
+
+-- A walk ends with a slot in use: no slot is walked behind the last one.
+pub walk-ends-in-use : (m : Octets → Bool) (t : Table) (k : ℕ) → lookUp m t .walked ≡ suc k → (r : Octets) × (getD t k none ≡ some r)
+unfolding lookUp
+walk-ends-in-use = walk-ends
+
+-- A host is answered 0, 5 or 6, and only with 0 it is told anything: a slot and the slots walked, each at most 32.
+pub look-ups-answered : (s : Octets) (index table : ℕ) (key : Octets) → LookUpAnswer (hubLookUp s index table key .answer) (hubLookUp s index table key .extra)
+look-ups-answered = look-up-answered
+
+-- It reads both back from the one number.
+pub looked-up-read-back : (m : Octets → Bool) (t : Table) → length t ≡ 32
+    → (toldLookUp (lookUp m t) .extra % 256 ≡ lookUp m t .slot) × (toldLookUp (lookUp m t) .extra / 256 ≡ lookUp m t .walked)
+looked-up-read-back = looked-back
+
+-- What a look-up goes by is what no two records of a table share, by the table's own rule.
+pub looked-for-by-key : (k : ℕ) (r : Octets) → k < 6 → (k ≡ longTermKeys → ⊥) → ruleAt k .key r ≡ take (keyLength k) r
+looked-for-by-key = keyed
+
+-- Of long term keys their Master is not looked at: two may have one address and type.
+pub master-not-looked-at : (r : Octets) → ruleAt longTermKeys .key r ≡ octet r 8 ∷ take (keyLength longTermKeys) r
+master-not-looked-at = keyed-by-master

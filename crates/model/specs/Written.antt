@@ -1,5 +1,5 @@
 -- What a call writes with each of its answers: the column of 01's table of answers that says so, as a claim over number and octets.
-use Prim.Native.Nat.{ℕ}
+use Prim.Native.Nat.{ℕ, _+_, _*_, _≤_}
 use mathlib.Core.Path.{_≡_}
 use mathlib.Core.Bool.{Bool, true, false, _||_}
 use mathlib.Core.List.{[]}
@@ -94,6 +94,12 @@ pub data ReadAnswer : ℕ → Octets → Type 0 where
   noRoom : ReadAnswer (numberOf SmallBuffer) []
   badState : ReadAnswer (numberOf BadState) []
   wrong : ReadAnswer (numberOf BadArgument) []
+
+-- what is answered to a host that looks a record up, and the number it is told beside it: slot and slots walked, each at most 32, or 0
+pub data LookUpAnswer : ℕ → ℕ → Type 0 where
+  told : {slot walked : ℕ} → slot ≤ 32 → walked ≤ 32 → LookUpAnswer (numberOf (Done 0)) (slot + 256 * walked)
+  badState : LookUpAnswer (numberOf BadState) 0
+  wrong : LookUpAnswer (numberOf BadArgument) 0
 
 -- what load answers: done, a state buffer of another length, or an image that it does not take
 unfoldable pub loadAnswer : ℕ → Bool
