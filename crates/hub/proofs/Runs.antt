@@ -24,8 +24,8 @@ use Rattle.model.specs.Theorems.{answers-are-eight, count-fits, demand-3, load-
 use Rattle.model.specs.Proof.Tests.{and-true, both, either, equal, no-way}
 use Rattle.model.specs.Proof.Demand3.{state-back}
 use Rattle.hub.specs.Entries.{Returns}
-use Rattle.hub.specs.Runs.{asks, CountsTrue, Demand3OfRuns, EveryListRuns, Run, Seen, Step, answerIn, countIn, ends, entryOf, names, octetsIn, onAir}
-use Rattle.hub.specs.Runs.{step}
+use Rattle.hub.specs.Runs.{asks, CountsTrue, Demand3OfRuns, EveryListRuns, Run, Seen, Step, answerIn, countIn, ends, entryOf, looks, names, octetsIn}
+use Rattle.hub.specs.Runs.{onAir, step}
 use Rattle.hub.specs.Runs as Runs
 
 -- 1. What a number says -------------------------------------------------------------------------------------------------------------------------
@@ -99,6 +99,7 @@ run-of s end xs ends = record { wide = refl; seen = refl; counts = tt; state = r
 run-of s end xs (names index which r k more) = run-of s end xs more
 run-of s end xs (onAir index r k more) = run-of s end xs more
 run-of s end xs (asks packet r k more) = run-of s end xs more
+run-of s end xs (looks index table key r k more) = run-of s end xs more
 run-of s end (x ∷ xs) (step {next = n} k more) = run-more s n end x xs (step-of s (x .call) (x .returned) (x .reply) n k) (run-of n end xs more)
 
 -- 4. Demand 3 -----------------------------------------------------------------------------------------------------------------------------------

@@ -7,6 +7,7 @@ use Rattle.model.specs.Octets.{Octets}
 use Rattle.model.specs.Hub.{Result}
 use Rattle.model.specs.Answers.{numberOf, countOf}
 use Rattle.model.specs.declared.Answer.{Answer}
+use Rattle.model.specs.declared.LookUpReply.{LookUpReply}
 use Rattle.why.specs.Meaning.{Explained}
 
 -- an answer and its count in one number: answer + 256 x count
@@ -25,3 +26,7 @@ pub record Returns (o : Result Octets) (r : ℕ) (before after left : Octets) : 
 pub record Explains (e : Explained) (r : ℕ) (before after : Octets) : Type 0 where
   pub number : r ≡ e .answer + 256 * length (e .octets) + 2 ^ 32 * e .status
   pub text : after ≡ e .octets ++ drop (length (e .octets)) before
+
+-- the answer of a look-up and what it tells in one number: answer + 2^32 x what is told. Nothing is written, and the count is 0.
+unfoldable pub lookUpNumber : LookUpReply → ℕ
+lookUpNumber u = u .answer + 2 ^ 32 * u .extra

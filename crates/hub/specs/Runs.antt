@@ -11,10 +11,10 @@ use Rattle.model.specs.Hub.{Call}
 use Rattle.model.specs.Hub as Hub
 use Rattle.model.specs.WellFormed.{callsWide, hardwareWide}
 use Rattle.model.specs.Layout.{cleared}
-use Rattle.model.specs.Meanings.{hubClock, hubCommand, hubLoad, hubName, hubOnAir, hubPlug, hubReport, hubSave, hubUnplug, meaning, plainMeaning}
+use Rattle.model.specs.Meanings.{hubClock, hubCommand, hubLoad, hubLookUp, hubName, hubOnAir, hubPlug, hubReport, hubSave, hubUnplug, meaning, plainMeaning}
 use Rattle.model.specs.Demand3.{Agrees, Entry, after, entry, noPending, reduce}
 use Rattle.why.specs.Meaning.{hubWhy}
-use Rattle.hub.specs.Entries.{Explains, Returns}
+use Rattle.hub.specs.Entries.{Explains, Returns, lookUpNumber}
 
 -- What a host reads ---------------------------------------------------------------------------------------------------------------------------
 
@@ -25,6 +25,14 @@ answerIn r = r % 256
 -- the count in it: the 24 bits above them
 unfoldable pub countIn : ℕ → ℕ
 countIn r = r / 256 % 2 ^ 24
+
+-- of hub_look_up the slot told: eight bits from bit 32 on
+unfoldable pub slotIn : ℕ → ℕ
+slotIn r = r / 2 ^ 32 % 256
+
+-- and the slots walked: the bits above them
+unfoldable pub walkedIn : ℕ → ℕ
+walkedIn r = r / 2 ^ 40
 
 -- the octets written: so many from the start of the reply buffer
 unfoldable pub octetsIn : ℕ → Octets → Octets
@@ -63,7 +71,8 @@ pub data Step (s : Octets) : Call → ℕ → Octets → Octets → Type 0 where
   -- hub_save, which only reads the state
   save : {r : ℕ} {before after : Octets} → Returns (hubSave s (length before)) r before after s → Step s (Hub.save (length before)) r after s
 
--- calls one after the other, each lent the state that the call before it left; names, what is on air, and why a packet would be refused may be asked in between
+-- calls one after the other, each lent the state that the call before it left; names, what is on air, why a packet would be refused, and where a record
+-- stands may be asked in between
 pub data Run : Octets → List Seen → Octets → Type 0 where
   -- no call: the state is as it was
   ends : {s : Octets} → Run s [] s
@@ -76,6 +85,9 @@ pub data Run : Octets → List Seen → Octets → Type 0 where
   -- hub_why, likewise
   asks : {s end before after : Octets} {xs : List Seen} (packet : Octets) (r : ℕ) → Explains (hubWhy s packet (length before)) r before after
       → Run s xs end → Run s xs end
+  -- hub_look_up, likewise
+  looks : {s end : Octets} {xs : List Seen} (index table : ℕ) (key : Octets) (r : ℕ) → r ≡ lookUpNumber (hubLookUp s index table key) → Run s xs end
+      → Run s xs end
   -- a call, then the others
   step : {s next end : Octets} {x : Seen} {xs : List Seen} → Step s (x .call) (x .returned) (x .reply) next → Run next xs end → Run s (x ∷ xs) end
 

@@ -1,19 +1,20 @@
-// The hub: the order of a call, and the ten functions that C calls: 01's seven, and three that only read: one tells a name, one what is
-// on air, and one why a packet would be refused.
+// The hub: the order of a call, and the eleven functions that C calls: 01's seven, and four that only read: one tells a name, one what is
+// on air, one why a packet would be refused, and one where a record stands.
 ghost use mathlib.Core.Path.{_≡_};
 ghost use Prim.Native.Nat.{_≤_};
 ghost use lib.ListN.{length};
 ghost use Rattle.model.specs.Lengths as Lengths;
 ghost use Rattle.model.specs.Hub as Hub;
-ghost use Rattle.model.specs.Meanings.{stateOk, meaning, hubCommand, hubReport, hubClock, hubPlug, hubUnplug, hubSave, hubLoad, hubName, hubOnAir};
+ghost use Rattle.model.specs.Meanings.{stateOk, meaning, hubCommand, hubReport, hubClock, hubPlug, hubUnplug, hubSave, hubLoad, hubLookUp, hubName, hubOnAir};
 ghost use Rattle.model.specs.Answers.{countOf};
 ghost use Rattle.replies.specs.Answers.{Gives};
 ghost use mathlib.Core.Bool.{true};
 ghost use Rattle.model.specs.Layout.{decode};
 ghost use Rattle.why.specs.Findings.{why};
 ghost use Rattle.why.specs.Meaning.{hubWhy, textBuffer, told};
-ghost use Rattle.hub.specs.Entries.{packed, Explains, Returns};
+ghost use Rattle.hub.specs.Entries.{packed, lookUpNumber, Explains, Returns};
 use model::Answer;
+use model::LookUpReply;
 use model::lengths;
 use why::Finding;
 
@@ -202,6 +203,16 @@ fn tell(text: &mut [u8], f: Finding) -> u64
     pack(Answer::Done(count)) + 0x100000000 * status
 }
 
+// Where a record stands.
+fn look_up(state: &[u8], index: u64, table: u64, key: &[u8]) -> LookUpReply
+    ensures { λ r. ⌜ r ≡ hubLookUp (now (state .entry)) index table (now (key .entry)) ⌝ }
+{
+    if checks::well_formed(state) {
+        return information::look_up(state, index, table, key);
+    }
+    information::refused_look_up(Answer::BadState)
+}
+
 // C's call of a command.
 #[no_mangle]
 pub extern "C" fn hub_command(state: &mut [u8], packet: &[u8], reply: &mut [u8]) -> u64
@@ -336,4 +347,13 @@ pub extern "C" fn hub_why(state: &[u8], packet: &[u8], text: &mut [u8]) -> u64
         return pack(Answer::SmallBuffer);
     }
     pack(Answer::BadState)
+}
+
+// C's question where a record stands: the state is only read, and nothing is written.
+#[no_mangle]
+pub extern "C" fn hub_look_up(state: &[u8], index: u64, table: u64, key: &[u8]) -> u64
+    ensures { λ r. ⌜ r ≡ lookUpNumber (hubLookUp (now (state .entry)) index table (now (key .entry))) ⌝ }
+{
+    let u = look_up(state, index, table, key);
+    u.answer + 0x100000000 * u.extra
 }

@@ -1,3 +1,4 @@
 pub mod General
 pub mod Name
+pub mod LookUp
 pub mod Controller

@@ -1,7 +1,8 @@
-// The commands that tell of the hub and of a controller: version, commands, indexes, controller information; and the names, which are set and told here.
+// The commands that tell of the hub and of a controller: version, commands, indexes, controller information; the names, which are set and told here; and where
+// a record stands.
 ghost use mathlib.Core.Path.{_≡_};
 ghost use mathlib.Core.Bool.{true};
-ghost use Prim.Native.Nat.{_+_, _≤_};
+ghost use Prim.Native.Nat.{_+_, _≤_, _<_};
 ghost use lib.ListN.{length};
 ghost use Rattle.model.specs.Codes as Codes;
 ghost use Rattle.model.specs.Lengths as Lengths;
@@ -16,8 +17,16 @@ ghost use Rattle.information.specs.Controller.{informationHead, informat
 ghost use Rattle.model.specs.Immediate.{readInformation, setLocalName};
 ghost use Rattle.layout.specs.Places.{Ready, controllerOf};
 ghost use Rattle.outcomes.specs.Outcomes.{nameRead, immediateCommand};
+ghost use mathlib.Core.Bool.{_&&_};
+ghost use lib.Dec.{eqb, ltb};
+ghost use Rattle.model.specs.LookUp.{keyLength};
+ghost use Rattle.model.specs.Meanings.{lookUpOut, refusedLookUp};
+ghost use Rattle.model.specs.State.{controllerAt};
+ghost use Rattle.information.specs.LookUp.{LooksUp};
 use model::Answer;
 use model::Hardware;
+use model::LookUp;
+use model::LookUpReply;
 use model::codes;
 use model::events;
 use model::statuses;
@@ -235,6 +244,64 @@ pub fn tell_name(state: &[u8], index: u64, which: u64, reply: &mut [u8]) -> Answ
         }
     }
     Answer::BadArgument
+}
+
+// How many octets a record of table k is looked for by.
+fn key_length(k: u64) -> usize
+    ensures { λ r. ⌜ r ≡ keyLength k ⌝ }
+{
+    if k == 0 {
+        return 16;
+    }
+    7
+}
+
+// Whether k is one of the six tables, and the key as long as that table's keys are.
+fn asked_well(k: u64, key: &[u8]) -> bool
+    ensures { λ r. ⌜ r ≡ (ltb k 6 && eqb (length (now (key .entry))) (keyLength k)) ⌝ }
+{
+    if k < 6 {
+        return key.len() == key_length(k);
+    }
+    false
+}
+
+// The look-up of a key in table k of the controller at an index: the one that the commands make.
+fn look_up_in(state: &[u8], index: u64, k: usize, key: &[u8]) -> LookUp
+    requires { ⌜ Ready (now state) index × (k < 6) × (length (now key) ≡ keyLength k) ⌝ }
+    ensures { λ r. ⌜ LooksUp (now (state .entry)) index k (now (key .entry)) r ⌝ }
+{
+    let place = layout::table_place(index, k);
+    let size = records::size_of(k);
+    table::look_up(state, place, size, key)
+}
+
+// A look-up that is refused: the number of the answer.
+pub fn refused_look_up(a: Answer) -> LookUpReply
+    ensures { λ r. ⌜ r ≡ refusedLookUp a ⌝ }
+{
+    LookUpReply {
+        answer: replies::number(a),
+        extra: 0,
+    }
+}
+
+// Where a record stands, told to the host: slot and slots walked in one number. Nothing is written.
+pub fn look_up(state: &[u8], index: u64, table: u64, key: &[u8]) -> LookUpReply
+    requires { ⌜ stateOk (now state) ≡ true ⌝ }
+    ensures { λ r. ⌜ r ≡ lookUpOut table (now (key .entry)) (controllerAt (decode (now (state .entry)) .plain) index) ⌝ }
+{
+    if layout::present(state, index) {
+        if asked_well(table, key) {
+            let u = look_up_in(state, index, table as usize, key);
+            return LookUpReply {
+                answer: 0,
+                extra: (u.slot + 256 * u.walked) as u64,
+            };
+        }
+        return refused_look_up(Answer::BadArgument);
+    }
+    refused_look_up(Answer::BadArgument)
 }
 
 // Version, manufacturer, supported and current settings, and the class with these hints: what stands between the address and the name.

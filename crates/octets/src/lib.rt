@@ -178,6 +178,21 @@ pub fn same_part(a: &[u8], i: usize, b: &[u8], j: usize, n: usize) -> bool
     true
 }
 
+// The same, as keys are compared: eight octets at a time as a number, and the rest octet by octet.
+pub fn same_key(a: &[u8], i: usize, b: &[u8], j: usize, n: usize) -> bool
+    requires { ⌜ (i + n ≤ length (now a)) × (j + n ≤ length (now b)) ⌝ }
+    ensures { λ r. ⌜ r ≡ same (part (now (a .entry)) i n) (part (now (b .entry)) j n) ⌝ }
+{
+    let mut k: usize = 0;
+    while 8 <= n - k {
+        if u64_at(a, i + k) != u64_at(b, j + k) {
+            return false;
+        }
+        k += 8;
+    }
+    same_part(a, i + k, b, j + k, n - k)
+}
+
 // How many octets the used part of a name has: those before the first zero.
 pub fn used_length(name: &[u8]) -> usize
     ensures { λ r. ⌜ r ≡ length (usedPart (now (name .entry))) ⌝ }

@@ -1,6 +1,6 @@
 -- Laws that the proofs of this crate cite, over plain lists and numbers, in the form in which the code leaves them.
 use mathlib.Core.Path.{_≡_, refl, ap, sym, _∙_}
-use Prim.Native.Nat.{ℕ, zero, suc, _+_, _*_, _-_, _/_, _%_, _^_, _≤_, _<_, max}
+use Prim.Native.Nat.{ℕ, _+_, _*_, _-_, _/_, _%_, _^_, _≤_, _<_, max}
 use native.Mathlib.Omega.{arith}
 use native.Mathlib.Nat.{mul-add, one-mul}
 use mathlib.Core.Bool.{Bool, true, false}
@@ -9,14 +9,14 @@ use mathlib.Core.Option.{none, some}
 use lib.ListN.{length, getD, drop, set, replicate, length-set, drop-of-length-le}
 use mir.Syntax.{w64}
 use mir.Val.{Fits}
+use lib.Dec.{ltb}
+use borrow.Author.Tests.{ltb-true, ltb-false}
 use lib.Pow.{shl-exact, pow-pos}
 use lib.Arith.{bin-ind}
-use lib.Seq.{take-take}
 use lib.Bits.{bitAnd, bitOr, and-le-l, or-lt, or-step, or-zero-r}
 use lib.Count.{trailingZeros, trailing-le, trailing-of-zero}
-use Rattle.model.specs.Octets.{Octets, le32, octet, u32, same}
-use Rattle.model.specs.State.{Table}
-use Rattle.model.specs.Tables.{begins, chop, entries, freed, loaded, free}
+use Rattle.model.specs.Octets.{Octets, le32, octet, u32}
+use Rattle.model.specs.Tables.{chop, entries, freed, loaded, free}
 use Rattle.model.specs.Layout.{region}
 use Rattle.model.specs.Proof.Region.{Sized}
 use Rattle.octets.specs.Parts.{part, writeAt}
@@ -25,7 +25,7 @@ use Rattle.table.specs.Slots.{Canonical, InUse, NextUsed, firstAt, joine
 use Rattle.table.proofs.Slots.{freed-first, freed-none, entries-first, sized-none}
 use Rattle.table.proofs.Regions.{free-at, store-changed, release-changed, load-changed, length-table, length-region, canonical-write}
 use Rattle.table.proofs.Regions.{sized-at, table-write, write-over, write-part}
-use Rattle.table.proofs.Walk.{next-some, next-none, next-first, next-entries, in-use-entries}
+use Rattle.table.proofs.Walk.{next-some, next-none, next-entries, in-use-entries, positive}
 
 -- places ------------------------------------------------------------------------------------------------------------------------------------------
 
@@ -104,12 +104,8 @@ pub next-some-at : (s : Octets) (at k w : ℕ) → k ≤ 32 → w ≡ u32 s at �
 next-some-at s at k w h e l n =
     let p : 0 < u32 s at / 2 ^ k = rw e at (positive (w / 2 ^ k) n) in
     let q : (size : ℕ) → (k + trailingZeros 64 (u32 s at / 2 ^ k) < 32)
-    × NextUsed s at size k (k + trailingZeros 64 (u32 s at / 2 ^ k)) = λ size. next-some s at size k h (rw e at l) p in
+    × NextUsed s at size k (k + trailingZeros 64 (u32 s at / 2 ^ k)) = λ size. next-some s at size k 64 h (omega arith) (rw e at l) p in
     rw e (λ size. q size .1, omega arith, omega (arith, q 0 .0))
-  where
-    positive : (v : ℕ) → (v ≡ 0 → ⊥) → 0 < v
-    positive zero f = absurd (f refl)
-    positive (suc v) f = omega arith
 
 -- no bit is left in the word: there is no next slot in use
 pub next-none-at : (s : Octets) (at k w : ℕ) → k ≤ 32 → w ≡ u32 s at → w / 2 ^ k ≡ 0 → ((size : ℕ) → NextUsed s at size k 32) × (k ≤ 32) × (32 ≤ 32)
@@ -118,56 +114,6 @@ next-none-at s at k w h e n = (λ size. next-none s at size k h (rw e at n), h, 
 -- past the last slot
 pub drop-all : (s : Octets) (at size k : ℕ) → 32 ≤ k → drop k (tableAt s at size) ≡ []
 drop-all s at size k l = drop-of-length-le (tableAt s at size) {i = k} (rw (length-table s at size) l)
-
--- searching: what is left from slot k on holds the first match
-first-cons : (m : Octets → Bool) (x : Octets) (t : Table) (b : Bool) → m x ≡ b → firstAt m (some x ∷ t) ≡ elim b [ true ↦ 0 | false ↦ suc (firstAt m t) ]
-unfolding firstAt
-first-cons m x t b e = ap (λ (c : Bool). elim c [ true ↦ 0 | false ↦ suc (firstAt m t) ]) e
-
--- a record that lies at a place begins with the key exactly if the octets there are the key's
-begins-part : (s key : Octets) (place size n : ℕ) → n ≤ size → begins n key (part s place size) ≡ same (part key 0 n) (part s place n)
-unfolding begins part
-begins-part s key place size n l = rw (take-take n size (drop place s) l)
-
-module _ (s key : Octets) (at size n : ℕ) where
-  -- what the search keeps: no slot before k matches
-  abbrev pub Left : ℕ → Type 0
-  Left k = k + firstAt (begins n key) (drop k (tableAt s at size)) ≡ firstAt (begins n key) (tableAt s at size)
-
-  -- a slot in use is the first match itself, or the first match is behind it
-  here : (k : ℕ) → n ≤ size → InUse s at size k
-      → firstAt (begins n key) (drop k (tableAt s at size))
-      ≡ elim (same (part key 0 n) (part s (at + (4 + size * k)) n)) [ true ↦ 0 | false ↦ suc (firstAt (begins n key) (drop (k + 1) (tableAt s at size))) ]
-  here k l u =
-      let p : ℕ = at + (4 + size * k) in
-      rw u (first-cons (begins n key) (part s p size) (drop (k + 1) (tableAt s at size)) (same (part key 0 n) (part s p n)) (begins-part s key p size n l))
-
-  -- it starts at the first slot in use
-  pub left-first : (r : ℕ) → NextUsed s at size 0 r → Left r
-  left-first r u = let e = next-first s at size 0 r u (begins n key) in omega arith
-
-  -- a record that begins with the key: it is the first match
-  pub left-hit : (k : ℕ) → n ≤ size → InUse s at size k → same (part key 0 n) (part s (at + (4 + size * k)) n) ≡ true → Left k
-      → k ≡ firstAt (begins n key) (tableAt s at size)
-  left-hit k l u h e =
-      let f : firstAt (begins n key) (drop k (tableAt s at size)) ≡ 0 = rw h at (here k l u) in
-      omega arith
-
-  -- one that does not: the search goes on at the next slot in use
-  pub left-miss : (k r : ℕ) → n ≤ size → InUse s at size k → same (part key 0 n) (part s (at + (4 + size * k)) n) ≡ false
-      → NextUsed s at size (k + 1) r → k + 1 ≤ r → Left k → Left r
-  left-miss k r l u h v g e =
-      let f : firstAt (begins n key) (drop k (tableAt s at size)) ≡ suc (firstAt (begins n key) (drop (k + 1) (tableAt s at size))) = rw h at (here k l u) in
-      let d = next-first s at size (k + 1) r v (begins n key) in
-      omega arith
-
-  -- past the last slot: nothing matches
-  pub left-none : (k : ℕ) → k ≤ 32 → 32 ≤ k → Left k → 32 ≡ firstAt (begins n key) (tableAt s at size)
-  unfolding firstAt
-  left-none k l m e =
-      let d : drop k (tableAt s at size) ≡ [] = drop-all s at size k m in
-      let f : firstAt (begins n key) (drop k (tableAt s at size)) ≡ 0 = rw d in
-      omega arith
 
 -- joining octets
 or-half : (a b : ℕ) → bitOr a b / 2 ≡ bitOr (a / 2) (b / 2)
@@ -223,6 +169,14 @@ module _ (s : Octets) (at size place : ℕ) where
       sym (or-zero-r hints) ∙ f
 
 -- freeing ---------------------------------------------------------------------------------------------------------------------------------------
+
+-- a slot that is told and is not 32 is one of the table's
+pub other-slot : (k : ℕ) → k ≤ 32 → (k ≡ 32 → ⊥) → k < 32
+other-slot k l f = go (ltb k 32) refl
+  where
+    go : (b : Bool) → ltb k 32 ≡ b → k < 32
+    go true e = ltb-true k 32 e
+    go false e = absurd (f (omega (arith, ltb-false k 32 e)))
 
 -- While matching slots of the table of s₀ are freed one by one: s differs in the table only, which is laid out as one, and what is still to be freed.
 pub record Freeing (m : Octets → Bool) (s₀ s : Octets) (at size : ℕ) : Type 0 where

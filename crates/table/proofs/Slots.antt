@@ -39,14 +39,7 @@ suc-eqb a b = go (eqb a b) refl
     go true e = sym (eq-eqb (suc a) (suc b) (ap suc (eqb-true a b e)))
     go false e = sym (ne-eqb (suc a) (suc b) (λ q. eqb-false a b e (omega arith)))
 
--- the first slot that matches is at most the number of slots
-pub first-le : (m : Octets → Bool) (t : Table) → firstAt m t ≤ length t
-unfolding firstAt
-first-le m [] = omega arith
-first-le m (none ∷ t) = omega (arith, first-le m t)
-first-le m (some r ∷ t) = either (λ k. k ≤ suc (length t)) (m r) (λ q. omega arith) (λ q. omega (arith, first-le m t))
-
--- the same, of the lowest free slot
+-- the lowest free slot is at most the number of slots
 pub free-le : (t : Table) → free t ≤ length t
 unfolding free
 free-le [] = omega arith

@@ -17,6 +17,11 @@ use Rattle.octets.specs.Parts.{part}
 use Rattle.table.specs.Slots.{InUse, NextUsed, firstAt, tableAt}
 use Rattle.table.proofs.Regions.{length-table, from-used, from-free, from-zero, drop-from, table-from, tableFrom}
 
+-- a number that is not 0
+pub positive : (v : ℕ) → (v ≡ 0 → ⊥) → 0 < v
+positive zero f = absurd (f refl)
+positive (suc v) f = omega arith
+
 -- from a place on: the slots below the lowest bit are free, and the slot of that bit is in use
 next-from : (s : Octets) (size d n v place : ℕ) → n ≤ d → 0 < v → v < 2 ^ n
     → (trailingZeros d v < n)
@@ -64,19 +69,19 @@ walk-to t k j x e =
     let f : drop j (drop k t) ≡ some x ∷ drop (suc j) (drop k t) = ap (drop j) e ∙ d in
     (rw (← a, f) e, rw (← a, ← c, ← b) f)
 
--- the next slot in use, from the word
-pub next-some : (s : Octets) (at size k : ℕ) → k ≤ 32 → u32 s at < 4294967296 → 0 < u32 s at / 2 ^ k
-    → (k + trailingZeros 64 (u32 s at / 2 ^ k) < 32) × NextUsed s at size k (k + trailingZeros 64 (u32 s at / 2 ^ k))
-next-some s at size k h l p =
+-- the next slot in use, from the word; its zeros are counted in any width that has the bits of the slots left
+pub next-some : (s : Octets) (at size k d : ℕ) → k ≤ 32 → 32 - k ≤ d → u32 s at < 4294967296 → 0 < u32 s at / 2 ^ k
+    → (k + trailingZeros d (u32 s at / 2 ^ k) < 32) × NextUsed s at size k (k + trailingZeros d (u32 s at / 2 ^ k))
+next-some s at size k d h o l p =
     let t : Table = tableAt s at size in
     let v : ℕ = u32 s at / 2 ^ k in
-    let j : ℕ = trailingZeros 64 v in
-    let d = drop-at-place s at size k in
+    let j : ℕ = trailingZeros d v in
+    let x = drop-at-place s at size k in
     let e : 32 - k + k ≡ 32 = omega arith in
     let b : v < 2 ^ (32 - k) = shr-lt (32 - k) k (rw e l) in
-    let q = next-from s size 64 (32 - k) v (at + 4 + size * k) (omega arith) p b in
+    let q = next-from s size d (32 - k) v (at + 4 + size * k) o p b in
     let f : at + 4 + size * k + size * j ≡ at + (4 + size * (k + j)) = omega (arith, mul-add size k j) in
-    let g : drop k t ≡ replicate j none ++ (some (part s (at + (4 + size * (k + j))) size) ∷ drop (suc j) (drop k t)) = rw (← d, f) at (q .1) in
+    let g : drop k t ≡ replicate j none ++ (some (part s (at + (4 + size * (k + j))) size) ∷ drop (suc j) (drop k t)) = rw (← x, f) at (q .1) in
     let w = walk-to t k j (part s (at + (4 + size * (k + j))) size) g in
     let i : k + j - k ≡ j = omega arith in
     (omega (arith, q .0), record { passed = rw i (w .0); used = λ r. w .1 })

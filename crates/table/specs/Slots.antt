@@ -1,22 +1,16 @@
 -- Tables of 32 slots where they lie in octets: what the functions of this crate say of them.
 use mathlib.Core.Path.{_≡_}
-use Prim.Native.Nat.{ℕ, suc, _+_, _*_, _-_, _<_}
-use mathlib.Core.Bool.{Bool, true, false}
-use mathlib.Core.List.{List, [], _∷_, _++_, foldr}
+use Prim.Native.Nat.{ℕ, _+_, _*_, _-_, _<_}
+use mathlib.Core.List.{List, _∷_, _++_, foldr}
 use mathlib.Core.Option.{none, some}
 use lib.ListN.{drop, replicate}
 use lib.Bits.{bitOr}
 use Rattle.model.specs.Octets.{Octets, octet, u32}
 use Rattle.model.specs.State.{Table}
 use Rattle.model.specs.Tables.{chop}
+unfoldable pub use Rattle.model.specs.LookUp.{firstAt}
 use Rattle.model.specs.Layout.{region, slotsBack}
 use Rattle.octets.specs.Parts.{part}
-
--- the first slot whose record matches; the number of slots where none does
-unfoldable pub firstAt : (Octets → Bool) → Table → ℕ
-firstAt m [] = 0
-firstAt m (none ∷ t) = suc (firstAt m t)
-firstAt m (some r ∷ t) = elim (m r) [ true ↦ 0 | false ↦ suc (firstAt m t) ]
 
 -- the table that lies at a place, of records of a size: its occupancy word, then its slots
 unfoldable pub tableAt : Octets → ℕ → ℕ → Table

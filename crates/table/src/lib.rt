@@ -5,8 +5,10 @@ ghost use Prim.Native.Nat.{ℕ, _+_, _*_, _≤_, _<_};
 ghost use lib.ListN.{length, drop, set, replicate};
 ghost use Rattle.model.specs.Tables.{entries, begins, freed, loaded, chop, free};
 ghost use Rattle.model.specs.Layout.{region};
+ghost use Rattle.model.specs.LookUp.{lookUp};
 ghost use Rattle.octets.specs.Parts.{writeAt};
 ghost use Rattle.table.specs.Slots.{Canonical, NextUsed, firstAt, joinedByOr, tableAt};
+use model::LookUp;
 
 // How many slots are in use: the ones of the occupancy word.
 pub fn used(s: &[u8], at: usize) -> u32
@@ -40,19 +42,38 @@ pub fn next_used(s: &[u8], at: usize, k: usize) -> usize
     k + (u64::trailing_zeros(w) as usize)
 }
 
-// The first slot whose record has the first n octets of the key; 32 if there is none. Free slots are passed over.
+// Where the first record that begins with the key stands, and how many slots are walked to know it. With each used slot that is looked at, from the lowest
+// up, its one is taken away from a copy of the occupancy word; the walk ends where none is left.
+pub fn look_up(s: &[u8], at: usize, size: usize, key: &[u8]) -> LookUp
+    requires { ⌜ (at + (4 + size * 32) ≤ length (now s)) × (length (now key) ≤ size) ⌝ }
+    ensures { λ r. ⌜ r ≡ lookUp (begins (length (now (key .entry))) (now (key .entry))) (tableAt (now (s .entry)) at size) ⌝ }
+{
+    let mut left = octets::u32_at(s, at);
+    let mut walked: usize = 0;
+    while left != 0 {
+        let slot = u64::trailing_zeros(left) as usize;
+        if octets::same_key(key, 0, s, at + (4 + size * slot), key.len()) {
+            return LookUp {
+                slot: slot,
+                walked: slot + 1,
+            };
+        }
+        left = left & (left - 1);
+        walked = slot + 1;
+    }
+    LookUp {
+        slot: 32,
+        walked: walked,
+    }
+}
+
+// The slot that the look-up of the first n octets of the key tells: that of the first record which has them, 32 if there is none.
 pub fn find(s: &[u8], at: usize, size: usize, key: &[u8], n: usize) -> usize
     requires { ⌜ (at + (4 + size * 32) ≤ length (now s)) × (n ≤ size) × (n ≤ length (now key)) ⌝ }
     ensures { λ r. ⌜ (r ≡ firstAt (begins n (now (key .entry))) (tableAt (now (s .entry)) at size)) × (r ≤ 32) ⌝ }
 {
-    let mut k = next_used(s, at, 0);
-    while k < 32 {
-        if octets::same_part(key, 0, s, at + (4 + size * k), n) {
-            return k;
-        }
-        k = next_used(s, at, k + 1);
-    }
-    32
+    let u = look_up(s, at, size, &key[..n]);
+    u.slot
 }
 
 // The octet at `place` of every record, joined by or.
@@ -91,15 +112,17 @@ fn release(s: &mut [u8], at: usize, size: usize, k: usize)
     octets::put32(s, at, (w & mask) as u64);
 }
 
-// Frees every slot whose record has the first n octets of the key.
+// Frees every slot whose record has the first n octets of the key: one look-up for each, and one that finds none.
 pub fn release_matching(s: &mut [u8], at: usize, size: usize, key: &[u8], n: usize)
     requires { ⌜ (at + (4 + size * 32) ≤ length (now s)) × Canonical (now s) at size × (n ≤ size) × (n ≤ length (now key)) ⌝ }
     ensures { λ _. ⌜ now (s .exit) ≡ writeAt (now (s .entry)) at (region size (freed (begins n (now (key .entry))) (tableAt (now (s .entry)) at size))) ⌝ }
 {
-    let mut hit = find(s, at, size, key, n);
-    while hit < 32 {
+    loop {
+        let hit = find(s, at, size, key, n);
+        if hit == 32 {
+            return;
+        }
         release(s, at, size, hit);
-        hit = find(s, at, size, key, n);
     }
 }
 
