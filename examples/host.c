@@ -1,8 +1,8 @@
 /*
  * A small host that plays a shift: it starts from an image or fresh, plugs two controllers, powers them with a slow radio while two clients
- * interleave, loads keys, names a controller, advertises in turns while the clock runs, saves by write-then-rename, loads again and shows the name.
- * Every call is printed in words with its octets, and after it what is on air, as the radio asks for it, where that has changed. Behind a refused
- * command stands why the hub refuses it, in the log too.
+ * interleave, loads keys, shows on a display where the devices stand that come and go, names a controller, advertises in turns while the clock
+ * runs, saves by write-then-rename, loads again and shows the name. Every call is printed in words with its octets, and after it what is on air, as
+ * the radio asks for it, where that has changed. Behind a refused command stands why the hub refuses it, in the log too.
  *
  *     host [IMAGE [LOG]]      IMAGE is read if it is there, and written at the end; LOG gets every packet (call_log.h)
  */
@@ -228,11 +228,39 @@ static void interleave(void)
     radio_reports("The radio of controller 0 is done", 0, 0);
 }
 
-/* Keys and devices. */
+/* The cab's display asks where a device stands in controller 0's list of devices; its address and type are the key. */
+static void display_asks(const char *name, const uint8_t *device)
+{
+    const uint64_t result = hub_look_up(state, sizeof state, 0, HUB_DEVICES, device, 7);
+    if (hub_answer(result) != HUB_DONE)
+        printf("    Display: %s: %s\n", name, answer_name(hub_answer(result)));
+    else if (hub_slot(result) == HUB_SLOTS)
+        printf("    Display: %s is in no slot, slots walked: %u\n", name, hub_walked(result));
+    else
+        printf("    Display: %s is in slot %u, slots walked: %u\n", name, hub_slot(result), hub_walked(result));
+}
+
+/* Two devices as a client adds them: address, type, action. */
+static const uint8_t spreader[8] = { 9, 8, 7, 6, 5, 0xC4, 2, 2 };
+static const uint8_t headset[8] = { 0x31, 0x41, 0x59, 0x26, 0x53, 0xD8, 2, 1 };
+
+/* Devices come and go, and the display follows them. One that is removed leaves a gap: those behind it keep their slots until an image is loaded. */
+static void follow_devices(void)
+{
+    send("A", "adds a device, the spreader", 0x0033, 0, spreader, sizeof spreader);
+    display_asks("the spreader", spreader);
+    display_asks("the headset", headset);
+    send("B", "adds another device, the headset", 0x0033, 0, headset, sizeof headset);
+    display_asks("the headset", headset);
+    send("A", "removes the spreader", 0x0034, 0, spreader, 7);
+    display_asks("the headset", headset);
+    display_asks("the spreader", spreader);
+}
+
+/* Keys, devices and a service. */
 static void load_keys(void)
 {
     uint8_t list[2 + 2 * 36] = { 2, 0 };
-    static const uint8_t device[8] = { 9, 8, 7, 6, 5, 0xC4, 2, 2 };
     static const uint8_t uuid[17] = { 0xFB, 0x34, 0x9B, 0x5F, 0x80, 0, 0, 0x80, 0, 0x10, 0, 0, 0x0D, 0x18, 0, 0, 0x20 };
     for (unsigned k = 0; k < 2; k++) {
         uint8_t *key = list + 2 + 36 * k;
@@ -246,7 +274,7 @@ static void load_keys(void)
     send("B", "loads a list whose second key has 20 octets: refused, the keys stay", 0x0013, 0, list, sizeof list);
     memcpy(list + 2 + 36, list + 2, 36);
     send("B", "loads a list that names one device twice: refused, the keys stay", 0x0013, 0, list, sizeof list);
-    send("A", "adds a device", 0x0033, 0, device, sizeof device);
+    follow_devices();
     send("A", "adds the UUID of Heart Rate, 0x180D, with hint 0x20", 0x0010, 0, uuid, sizeof uuid);
 }
 
@@ -350,7 +378,8 @@ static int shift(const char *path)
     send("B", "reads the controllers", 0x0003, 0xFFFF, address, 0);
     if (!save(path) || (path && !start(path)))
         return 0;
-    send("B", "reads controller 0: unpowered, its keys kept, its instances gone", 0x0004, 0, address, 0);
+    send("B", path ? "reads controller 0: unpowered, its keys kept, its instances gone" : "reads controller 0 once more", 0x0004, 0, address, 0);
+    display_asks("the headset", headset);
     show_names(0);
     return 1;
 }

@@ -2,8 +2,8 @@
  * The hub: steers up to four Bluetooth controllers, index 0 to 3, by the BlueZ management commands.
  *
  * The caller lends every buffer: the state, the packet or image, the reply or text. Each call returns one number that holds the answer and the count of
- * octets written to the reply, and of hub_why a status too; take it apart with hub_answer, hub_count and hub_extra. The reply buffer behind these octets
- * is left alone.
+ * octets written to the reply, of hub_why a status too, and of hub_look_up a slot and the slots walked; take it apart with hub_answer, hub_count, hub_extra,
+ * hub_slot and hub_walked. The reply buffer behind these octets is left alone.
  *
  * What the caller owes:
  *   - each length is the true length of its buffer;
@@ -40,6 +40,9 @@
  * A refusal tells a status and no more. hub_why says in words which check fails first and where in the packet: lend it the same packet and the state as it
  * was before the command, or right after it, since a refused command leaves the state alone. docs/WHY.md has every wording.
  *
+ * Each controller has six tables of 32 slots. A record keeps its slot until it goes, and a new one takes the lowest free slot. hub_look_up says in which slot
+ * of a table a key stands, and how far the look-up had to walk: it is the look-up of every command that looks for a record.
+ *
  * Opcodes, event codes and status codes are those of BlueZ's mgmt.h; this header defines none of its names.
  */
 #ifndef HUB_H
@@ -68,8 +71,18 @@ extern "C" {
 #define HUB_BAD_PACKET 3u   /* the packet has no whole header, or another length than its header says */
 #define HUB_SMALL_BUFFER 4u /* the reply buffer is shorter than HUB_REPLY_MIN (hub_save: HUB_IMAGE_MAX; hub_why, its text: HUB_TEXT_MIN) */
 #define HUB_BAD_STATE 5u    /* the lent state is not well formed */
-#define HUB_BAD_ARGUMENT 6u /* a wrong argument, of hub_plug, hub_unplug, hub_report, hub_clock, hub_name or hub_on_air */
+#define HUB_BAD_ARGUMENT 6u /* a wrong argument, of hub_plug, hub_unplug, hub_report, hub_clock, hub_name, hub_on_air or hub_look_up */
 #define HUB_BAD_IMAGE 7u    /* hub_load does not take the image */
+
+/* The tables of a controller, as hub_look_up numbers them. */
+#define HUB_UUIDS 0u
+#define HUB_LINK_KEYS 1u
+#define HUB_LONG_TERM_KEYS 2u
+#define HUB_IDENTITY_KEYS 3u
+#define HUB_BLOCKED_DEVICES 4u
+#define HUB_DEVICES 5u
+/* The slots of a table are 0 to 31; hub_slot gives this number where no record has the key. */
+#define HUB_SLOTS 32u
 
 /* The answer, one of the numbers above. */
 static inline unsigned hub_answer(uint64_t result)
@@ -83,10 +96,25 @@ static inline size_t hub_count(uint64_t result)
     return (size_t)((result >> 8) & 0xFFFFFFu);
 }
 
-/* A second number: of hub_why the status that hub_command would answer with, 0 if the packet would be taken. Of all other calls it is 0. */
+/*
+ * A second number: of hub_why the status that hub_command would answer with, 0 if the packet would be taken; of hub_look_up the slot + 256 x the slots
+ * walked. Of all other calls it is 0.
+ */
 static inline uint32_t hub_extra(uint64_t result)
 {
     return (uint32_t)(result >> 32);
+}
+
+/* The slot that hub_look_up found, with answer 0: 0 to 31, or HUB_SLOTS where no record has the key. (With any other answer it is 0, and says nothing.) */
+static inline unsigned hub_slot(uint64_t result)
+{
+    return (unsigned)(hub_extra(result) & 0xFFu);
+}
+
+/* How many slots hub_look_up walked, with answer 0. */
+static inline unsigned hub_walked(uint64_t result)
+{
+    return (unsigned)(hub_extra(result) >> 8);
 }
 
 /* One packet of a reply: Command Complete (code 1), Command Status (code 2), or an event. */
@@ -185,6 +213,14 @@ uint64_t hub_on_air(const uint8_t *state, size_t state_len, uint64_t index, uint
  * only read. docs/WHY.md lists every line it can write. Answers 0, 3, 4 or 5.
  */
 uint64_t hub_why(const uint8_t *state, size_t state_len, const uint8_t *packet, size_t packet_len, uint8_t *text, size_t text_len);
+
+/*
+ * Looks for a record in a table of the controller at an index. The key is the UUID (16 octets) in table HUB_UUIDS, and address and address type (7 octets) in
+ * all others, as they stand in a packet. With answer 0 hub_slot gives the slot of the first record with that key, or HUB_SLOTS, and hub_walked how many
+ * slots were walked for it: up to the one found, or up to the last slot in use where there is none, which is 0 in an empty table. (Two long term keys may
+ * have one address and type; the first is found.) Nothing is written. Answers 0, or 6 for an absent index, a table above 5 or a key of another length, or 5.
+ */
+uint64_t hub_look_up(const uint8_t *state, size_t state_len, uint64_t index, uint64_t table, const uint8_t *key, size_t key_len);
 
 #ifdef __cplusplus
 }

@@ -1,7 +1,7 @@
 /*
  * The library with nothing but itself: no C library, no start files, two functions supplied here. A fresh hub is loaded, tells its version, that it would
- * take that command and that nothing is on air, and refuses an image; the program ends by a system call with the number of octets of the version's
- * reply, 12, or with what went wrong.
+ * take that command, that nothing is on air and that a device is in no slot, and refuses an image; the program ends by a system call with the number of
+ * octets of the version's reply, 12, or with what went wrong.
  *
  *     gcc -ffreestanding -nostdlib -static bare.c libhub.a
  */
@@ -33,7 +33,7 @@ static uint8_t state[HUB_STATE_LEN], reply[HUB_IMAGE_MAX];
 static unsigned run(void)
 {
     static const uint8_t fresh[] = { 0, 0, 0, 6, 1, 0 }, later[] = { 0, 0, 0, 6, 2, 0 }, version[] = { 1, 0, 0xFF, 0xFF, 0, 0 };
-    static const uint8_t address[6] = { 1, 2, 3, 4, 5, 6 };
+    static const uint8_t address[7] = { 1, 2, 3, 4, 5, 6, 1 };
     uint64_t result;
     if (hub_answer(hub_load(state, sizeof state, fresh, sizeof fresh)) != HUB_DONE)
         return 100;
@@ -45,6 +45,9 @@ static unsigned run(void)
         return 105;
     if (hub_why(state, sizeof state, version, sizeof version, reply, 256) != HUB_DONE + 256u * 14)
         return 106;
+    result = hub_look_up(state, sizeof state, 3, HUB_DEVICES, address, 7);
+    if (hub_answer(result) != HUB_DONE || hub_slot(result) != HUB_SLOTS || hub_walked(result) != 0)
+        return 107;
     result = hub_save(state, sizeof state, reply, sizeof reply);
     if (hub_answer(result) != HUB_DONE || hub_answer(hub_load(state, sizeof state, reply, hub_count(result))) != HUB_DONE)
         return 103;

@@ -76,6 +76,22 @@ static uint64_t send_advertising(uint8_t instance)
     return hub_command(state, sizeof state, packet, sizeof packet, reply, sizeof reply);
 }
 
+/* Adds a device to controller 0, and looks for it by the other header's address and type. */
+static uint64_t add_and_look_up(void)
+{
+    uint8_t packet[MGMT_HDR_SIZE + sizeof(struct mgmt_cp_add_device)];
+    struct mgmt_hdr header = { MGMT_OP_ADD_DEVICE, 0, sizeof packet - MGMT_HDR_SIZE };
+    struct mgmt_cp_add_device params;
+    memset(&params, 0x42, sizeof params);
+    params.addr.type = 1;
+    params.action = 2;
+    memcpy(packet, &header, sizeof header);
+    memcpy(packet + sizeof header, &params, sizeof params);
+    if (hub_answer(hub_command(state, sizeof state, packet, sizeof packet, reply, sizeof reply)) != HUB_DONE)
+        return HUB_REFUSED;
+    return hub_look_up(state, sizeof state, 0, HUB_DEVICES, (const uint8_t *)&params.addr, sizeof params.addr);
+}
+
 /* Whether the reply begins with an event for a command with a status; Command Complete and Command Status begin alike. */
 static int tells(uint16_t event, uint16_t index, uint16_t opcode, uint8_t status)
 {
@@ -114,6 +130,8 @@ int main(void)
     right = right && hub_count(hub_on_air(state, sizeof state, 0, reply, sizeof reply)) == 3 + 3 && reply[0] == 1;
     right = right && hub_answer(send_mode(MGMT_OP_REMOVE_ADVERTISING, 0, sizeof(struct mgmt_cp_remove_advertising), 0)) == HUB_DONE;
     right = right && reply[MGMT_HDR_SIZE + sizeof(struct mgmt_ev_cmd_complete) + 1] == MGMT_EV_ADVERTISING_REMOVED;
+    why = add_and_look_up();
+    right = right && hub_answer(why) == HUB_DONE && hub_slot(why) == 0 && hub_walked(why) == 1;
     printf("beside mgmt.h: %s (%s, %s, %s)\n", right ? "right" : "wrong", mgmt_opstr(MGMT_OP_READ_VERSION), mgmt_evstr(MGMT_EV_CMD_COMPLETE),
            mgmt_errstr(MGMT_STATUS_UNKNOWN_COMMAND));
     return !right;

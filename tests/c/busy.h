@@ -152,6 +152,22 @@ static void name_device(struct packet *packet, unsigned code, unsigned index, un
         params[7] = (uint8_t)eighth;
 }
 
+/* The key of entry k in a table as fill_tables fills it, at least 16 octets of room; gives its length. Of long term keys two entries have one key. */
+static inline size_t put_key(uint8_t *to, unsigned table, unsigned k)
+{
+    switch (table) {
+    case HUB_UUIDS:
+        memset(to, 0x11, 16);
+        to[15] = (uint8_t)(k + 1);
+        return 16;
+    case HUB_LINK_KEYS: put_address(to, k, 0); break;
+    case HUB_LONG_TERM_KEYS: put_address(to, k / 2, 1 + k / 2 % 2); break;
+    case HUB_IDENTITY_KEYS: put_address(to, k, 1 + k % 2); break;
+    default: put_address(to, k, k % 3); break;
+    }
+    return 7;
+}
+
 /* A name and a short name; the octets behind the first zero are used too. */
 static void local_name(struct packet *packet, unsigned index, int letter)
 {

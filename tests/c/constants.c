@@ -11,6 +11,7 @@ static uint8_t reply[HUB_IMAGE_MAX];
 static const uint8_t empty[] = { 0, 0, 0, 6, 1, 0 };
 static const uint8_t version[] = { 1, 0, 0xFF, 0xFF, 0, 0 }, commands[] = { 2, 0, 0xFF, 0xFF, 0, 0 };
 static const uint8_t address[6] = { 1, 2, 3, 4, 5, 6 }, unknown[6] = { 0x08 };
+static const uint8_t device[8] = { 1, 2, 3, 4, 5, 6, 1, 2 }, uuid[16] = { 1 };
 static int failures;
 
 static void expect(const char *what, unsigned got, unsigned wanted)
@@ -19,6 +20,47 @@ static void expect(const char *what, unsigned got, unsigned wanted)
         printf("%s: %u, and not %u\n", what, got, wanted);
         failures++;
     }
+}
+
+/* The question why: the shortest text buffer, the count and the status. */
+static void why(void)
+{
+    uint64_t result;
+    expect("why, text one octet short", hub_answer(hub_why(state, HUB_STATE_LEN, version, 6, reply, 255)), HUB_SMALL_BUFFER);
+    result = hub_why(state, HUB_STATE_LEN, commands, 6, reply, 256);
+    expect("why", hub_answer(result), HUB_DONE);
+    expect("its count", (unsigned)hub_count(result), 14);
+    expect("its second number", hub_extra(result), 0);
+    result = hub_why(state, HUB_STATE_LEN, address, 6, reply, 256);
+    expect("why, of no packet", hub_answer(result), HUB_BAD_PACKET);
+    result = hub_why(state, HUB_STATE_LEN, unknown, 6, reply, 256);
+    expect("why, of an unknown command", hub_answer(result), HUB_DONE);
+    expect("its second number", hub_extra(result), 1);
+}
+
+/* The tables by their numbers: of keys of 16 and of 7 octets one is taken. A device is added at 3, and looked for in the table that it is in. */
+static void look_up(void)
+{
+    static const unsigned tables[6] = { HUB_UUIDS, HUB_LINK_KEYS, HUB_LONG_TERM_KEYS, HUB_IDENTITY_KEYS, HUB_BLOCKED_DEVICES, HUB_DEVICES };
+    uint8_t packet[14] = { 0x33, 0, 3, 0, 8, 0 };
+    uint64_t result;
+    memcpy(packet + 6, device, sizeof device);
+    expect("add a device", hub_answer(hub_command(state, HUB_STATE_LEN, packet, sizeof packet, reply, HUB_REPLY_MIN)), HUB_DONE);
+    for (unsigned k = 0; k < 6; k++) {
+        expect("the number of a table", tables[k], k);
+        expect("a key of 16 octets", hub_answer(hub_look_up(state, HUB_STATE_LEN, 3, k, uuid, 16)), k == 0 ? HUB_DONE : HUB_BAD_ARGUMENT);
+        result = hub_look_up(state, HUB_STATE_LEN, 3, k, device, 7);
+        expect("a key of 7 octets", hub_answer(result), k == 0 ? HUB_BAD_ARGUMENT : HUB_DONE);
+        expect("its slot", hub_slot(result), k == HUB_DEVICES || k == 0 ? 0 : HUB_SLOTS);
+        expect("the slots walked", hub_walked(result), k == HUB_DEVICES);
+        expect("its count", (unsigned)hub_count(result), 0);
+    }
+    expect("a table above the last", hub_answer(hub_look_up(state, HUB_STATE_LEN, 3, HUB_DEVICES + 1, device, 7)), HUB_BAD_ARGUMENT);
+    expect("the look-up of an absent index", hub_answer(hub_look_up(state, HUB_STATE_LEN, 2, HUB_DEVICES, device, 7)), HUB_BAD_ARGUMENT);
+    expect("the slot in a number", hub_slot((uint64_t)0x201F << 32), 31);
+    expect("the slots walked in a number", hub_walked((uint64_t)0x201F << 32), 32);
+    expect("both as one", hub_extra((uint64_t)0x201F << 32), 0x201F);
+    expect("no slot in a number", hub_slot((uint64_t)0x0120 << 32), HUB_SLOTS);
 }
 
 int main(void)
@@ -51,17 +93,10 @@ int main(void)
     expect("on air", hub_answer(result), HUB_DONE);
     expect("its count", (unsigned)hub_count(result), 0);
     expect("on air, reply one octet short", hub_answer(hub_on_air(state, HUB_STATE_LEN, 3, reply, HUB_REPLY_MIN - 1)), HUB_SMALL_BUFFER);
-    expect("why, text one octet short", hub_answer(hub_why(state, HUB_STATE_LEN, version, 6, reply, 255)), HUB_SMALL_BUFFER);
-    result = hub_why(state, HUB_STATE_LEN, commands, 6, reply, 256);
-    expect("why", hub_answer(result), HUB_DONE);
-    expect("its count", (unsigned)hub_count(result), 14);
-    expect("its second number", hub_extra(result), 0);
-    result = hub_why(state, HUB_STATE_LEN, address, 6, reply, 256);
-    expect("why, of no packet", hub_answer(result), HUB_BAD_PACKET);
-    result = hub_why(state, HUB_STATE_LEN, unknown, 6, reply, 256);
-    expect("why, of an unknown command", hub_answer(result), HUB_DONE);
-    expect("its second number", hub_extra(result), 1);
+    why();
+    look_up();
     state[5] = 1;
+    expect("a look-up in such a state", hub_answer(hub_look_up(state, HUB_STATE_LEN, 3, HUB_DEVICES, device, 7)), HUB_BAD_STATE);
     expect("a state with an octet that means nothing", hub_answer(hub_clock(state, HUB_STATE_LEN, 0, reply, HUB_REPLY_MIN)), HUB_BAD_STATE);
     printf("constants: %s\n", failures ? "wrong" : "right");
     return failures != 0;

@@ -8,7 +8,7 @@
 
 #include "busy.h"
 
-enum { PAGE = 4096, ROOM = 8 * PAGE, BUFFERS = 4, ENTRIES = 10, TEXT = 256 };
+enum { PAGE = 4096, ROOM = 8 * PAGE, BUFFERS = 4, ENTRIES = 11, TEXT = 256 };
 
 static uint8_t *pages[BUFFERS]; /* of each the first and the last page may not be touched */
 static uint8_t base[HUB_STATE_LEN], image[HUB_IMAGE_MAX];
@@ -51,7 +51,7 @@ static uint8_t *place(int buffer, size_t length, int at_end)
     return at_end ? pages[buffer] + ROOM - PAGE - length : pages[buffer] + PAGE;
 }
 
-/* One of ten calls. The octets are those of a packet, an address or an image. */
+/* One of eleven calls. The octets are those of a packet, an address, an image or a key. */
 static uint64_t call(int which, uint8_t *state, size_t state_len, const uint8_t *octets, size_t octets_len, uint8_t *reply, size_t reply_len)
 {
     switch (which) {
@@ -64,6 +64,7 @@ static uint64_t call(int which, uint8_t *state, size_t state_len, const uint8_t 
     case 7: return hub_name(state, state_len, 2, 0, reply, reply_len);
     case 8: return hub_on_air(state, state_len, 3, reply, reply_len);
     case 9: return hub_why(state, state_len, octets, octets_len, reply, reply_len);
+    case 10: return hub_look_up(state, state_len, 0, octets_len == 16 ? HUB_UUIDS : HUB_DEVICES, octets, octets_len);
     default: return hub_load(state, state_len, octets, octets_len);
     }
 }
@@ -72,10 +73,10 @@ static uint64_t call(int which, uint8_t *state, size_t state_len, const uint8_t 
 static unsigned wanted(int which, int no_state, int no_octets, int no_reply)
 {
     static const unsigned refusals[ENTRIES] = { HUB_BAD_PACKET, HUB_DONE, HUB_DONE, HUB_DONE, HUB_BAD_ARGUMENT,
-                                                HUB_DONE, HUB_BAD_IMAGE, HUB_DONE, HUB_DONE, HUB_BAD_PACKET };
+                                                HUB_DONE, HUB_BAD_IMAGE, HUB_DONE, HUB_DONE, HUB_BAD_PACKET, HUB_BAD_ARGUMENT };
     if (no_state)
         return HUB_BAD_STATE;
-    if (no_reply && which != 6)
+    if (no_reply && which != 6 && which != 10)
         return HUB_SMALL_BUFFER;
     return no_octets ? refusals[which] : HUB_DONE;
 }
@@ -83,13 +84,13 @@ static unsigned wanted(int which, int no_state, int no_octets, int no_reply)
 /* Every call with every choice of buffers that have no octets; their pointers are null, or the first octet that may not be touched. */
 static void no_octets(int null)
 {
-    static const uint8_t version[] = { 1, 0, 0xFF, 0xFF, 0, 0 }, address[] = { 1, 2, 3, 4, 5, 6 };
+    static const uint8_t version[] = { 1, 0, 0xFF, 0xFF, 0, 0 }, address[] = { 1, 2, 3, 4, 5, 6, 1 };
     static uint8_t state[HUB_STATE_LEN], reply[HUB_IMAGE_MAX];
     uint8_t *none = null ? NULL : place(0, 0, 1);
     for (int which = 0; which < ENTRIES; which++)
         for (int mask = 0; mask < 8; mask++) {
-            const uint8_t *octets = which == 0 || which == 9 ? version : which == 4 ? address : image;
-            size_t length = which == 6 ? image_length : 6;
+            const uint8_t *octets = which == 0 || which == 9 ? version : which == 4 || which == 10 ? address : image;
+            size_t length = which == 6 ? image_length : which == 10 ? 7 : 6;
             uint64_t result;
             memcpy(state, base, sizeof state);
             if (which == 4)
@@ -121,7 +122,7 @@ static void packet_of(struct packet *packet, unsigned k)
     }
 }
 
-enum { PACKETS = 14, CALLS = 2 * PACKETS + 8 };
+enum { PACKETS = 14, KEYS = 8, OTHERS = 2 * PACKETS + KEYS, CALLS = OTHERS + 8 };
 
 /* The reply or text buffer that call k of a shift has; load has none. */
 static size_t room_of(unsigned k)
@@ -129,7 +130,18 @@ static size_t room_of(unsigned k)
     return k == CALLS - 2 ? HUB_IMAGE_MAX : k < PACKETS ? TEXT : HUB_REPLY_MIN;
 }
 
-/* Call k of a shift, each packet first asked about and then given; what is lent ends at the places that are given for it. */
+/* Looks for key k: the first, the last and one that is absent, of devices and of UUIDs; then with an octet less and more, which is no key. */
+static uint64_t look(unsigned k, uint8_t *state, uint8_t *octets)
+{
+    static const unsigned entries[KEYS] = { 0, 31, 40, 0, 31, 40, 1, 1 };
+    uint8_t key[17] = { 0 };
+    size_t length = put_key(key, k < 3 || k > 5 ? HUB_DEVICES : HUB_UUIDS, entries[k]);
+    length = k == 6 ? length - 1 : k == 7 ? length + 1 : length;
+    memcpy(octets - length, key, length);
+    return call(10, state, HUB_STATE_LEN, octets - length, length, NULL, 0);
+}
+
+/* Call k of a shift, each packet first asked about and then given, then keys; what is lent ends at the places that are given for it. */
 static uint64_t one(unsigned k, uint8_t *state, uint8_t *octets, uint8_t *reply)
 {
     struct packet packet;
@@ -139,6 +151,8 @@ static uint64_t one(unsigned k, uint8_t *state, uint8_t *octets, uint8_t *reply)
         memcpy(octets - packet.length, packet.octets, packet.length);
         return call(k < PACKETS ? 9 : 0, state, HUB_STATE_LEN, octets - packet.length, packet.length, room, room_of(k));
     }
+    if (k < OTHERS)
+        return look(k - 2 * PACKETS, state, octets);
     if (k == CALLS - 1) {
         memcpy(octets - image_length, image, image_length);
         return call(6, state, HUB_STATE_LEN, octets - image_length, image_length, NULL, 0);
@@ -148,7 +162,7 @@ static uint64_t one(unsigned k, uint8_t *state, uint8_t *octets, uint8_t *reply)
     if (k >= CALLS - 4)
         return call(k == CALLS - 3 ? 7 : 8, state, HUB_STATE_LEN, NULL, 0, room, HUB_REPLY_MIN);
     memcpy(octets - 6, "\1\2\3\4\5\6", 6);
-    return call((int)(k - 2 * PACKETS) + 1, state, HUB_STATE_LEN, octets - 6, 6, room, HUB_REPLY_MIN);
+    return call((int)(k - OTHERS) + 1, state, HUB_STATE_LEN, octets - 6, 6, room, HUB_REPLY_MIN);
 }
 
 /* A shift with its buffers so many octets before the end of their pages: a sum over all that is answered and written. */
@@ -179,6 +193,26 @@ static void alignments(void)
         expect("reply moved", k, shift(0, 0, k) == first);
         expect("all moved", k, shift(k, 16 - k, k * 7 % 16) == first);
     }
+}
+
+/* Keys right before and right behind a page that may not be touched: the first and the last device and UUID of the busy hub, and absent ones. */
+static void keys(int at_end)
+{
+    static const unsigned entries[3] = { 0, 31, 40 };
+    uint8_t *state = place(3, HUB_STATE_LEN, at_end);
+    for (unsigned table = 0; table < 6; table++)
+        for (unsigned k = 0; k < 3; k++) {
+            uint8_t key[16];
+            size_t length = put_key(key, table, entries[k]);
+            unsigned slot = k == 2 ? HUB_SLOTS : table == HUB_LONG_TERM_KEYS ? entries[k] / 2 * 2 : entries[k];
+            uint8_t *octets = place(1, length, at_end);
+            uint64_t result;
+            memcpy(state, base, HUB_STATE_LEN);
+            memcpy(octets, key, length);
+            result = hub_look_up(state, HUB_STATE_LEN, 1, table, octets, length);
+            expect("a key", table, hub_answer(result) == HUB_DONE && hub_slot(result) == slot && hub_walked(result) == (k == 2 ? 32 : slot + 1));
+            expect("a state looked up in", table, memcmp(state, base, HUB_STATE_LEN) == 0 && memcmp(octets, key, length) == 0);
+        }
 }
 
 /* Buffers right behind a page that may not be touched. */
@@ -213,6 +247,8 @@ int main(void)
     no_octets(0);
     alignments();
     at_start();
+    keys(0);
+    keys(1);
     printf("lending: %lu checks, %lu calls of memcpy and memset, %lu failures\n", tried, copies, failures);
     return failures != 0 || copies == 0;
 }

@@ -76,7 +76,10 @@ static void expect(const char *what, size_t with, uint64_t result, unsigned answ
            hub_count(result), count);
 }
 
-/* All calls but load with arguments that are wrong wherever they can be, all answered alike; a text buffer is too short from 255 octets down. */
+/*
+ * All calls but load with arguments that are wrong wherever they can be, all answered alike; a text buffer is too short from 255 octets down. A look-up
+ * has no buffer to be too short, so it is made only where the state is.
+ */
 static inline void try_all_wrong(const char *what, size_t with, const struct lent *state, const struct lent *reply, unsigned answer)
 {
     uint8_t *s = state->octets, *r = reply->octets;
@@ -90,6 +93,8 @@ static inline void try_all_wrong(const char *what, size_t with, const struct len
     expect(what, with, hub_name(s, state->length, 9, 9, r, reply->length), answer, state, reply, NULL, 0);
     expect(what, with, hub_on_air(s, state->length, 9, r, reply->length), answer, state, reply, NULL, 0);
     expect(what, with, hub_why(s, state->length, read_version, 5, r, short_text), answer, state, reply, NULL, 0);
+    if (answer == HUB_BAD_STATE)
+        expect(what, with, hub_look_up(s, state->length, 9, 9, address, 5), answer, state, reply, NULL, 0);
 }
 
 #endif

@@ -1,16 +1,16 @@
 /*
  * Every change of one octet of a busy state, to eight values with one bit flipped, 0 and 0xFF: the changed state is lent to command, report, clock,
- * unplug, save, on air and why. Each either answers 5 and writes nothing, or gives another answer of its own inside its buffers. All seven answer
- * 5, or none does.
+ * unplug, save, on air, why and look-up. Each either answers 5 and writes nothing, or gives another answer of its own inside its buffers. All eight
+ * answer 5, or none does.
  *
  *     one_octet [STRIDE [FIRST]]      only every STRIDE-th octet, from FIRST on; every one if nothing is said
  */
 #include "busy.h"
 
-enum { COMMAND, REPORT, CLOCK, UNPLUG, SAVE, ON_AIR, WHY, CALLS };
+enum { COMMAND, REPORT, CLOCK, UNPLUG, SAVE, ON_AIR, WHY, LOOK_UP, CALLS };
 enum { COMMANDS = 23, FILLER = 0xA5 };
 
-static const char *const call_names[CALLS] = { "command", "report", "clock", "unplug", "save", "on air", "why" };
+static const char *const call_names[CALLS] = { "command", "report", "clock", "unplug", "save", "on air", "why", "look-up" };
 static uint8_t *base, *changed;       /* the busy state, and that with one octet changed */
 static uint8_t *state, *reply, *room; /* what is lent, each as long as it must be and no longer: state, reply, save's reply */
 static uint8_t *filler;               /* what a reply buffer holds before a call */
@@ -46,6 +46,15 @@ static void make_packets(unsigned index)
     make_packet(p++, 0x003F, index, 1);
 }
 
+/* A look-up at an index, in each table in turn, of each of 40 keys in turn. */
+static uint64_t look_up(unsigned index)
+{
+    uint8_t key[16];
+    unsigned table = (unsigned)(changes % 6);
+    size_t length = put_key(key, table, (unsigned)(changes / 6 % 40));
+    return hub_look_up(state, HUB_STATE_LEN, index, table, key, length);
+}
+
 /* One call on the lent state, at the controller that the changed octet belongs to; the command and the status change from one to the next. */
 static uint64_t run(int call, size_t at)
 {
@@ -64,6 +73,8 @@ static uint64_t run(int call, size_t at)
         return hub_on_air(state, HUB_STATE_LEN, index, reply, HUB_REPLY_MIN);
     case WHY:
         return hub_why(state, HUB_STATE_LEN, packet->octets, packet->length, reply, HUB_REPLY_MIN);
+    case LOOK_UP:
+        return look_up(index);
     default:
         return hub_save(state, HUB_STATE_LEN, room, HUB_IMAGE_MAX);
     }
@@ -80,10 +91,20 @@ static int may_answer(int call, unsigned answer)
     case HUB_REFUSED:
         return call == COMMAND;
     case HUB_BAD_ARGUMENT:
-        return call == REPORT || call == CLOCK || call == UNPLUG || call == ON_AIR;
+        return call == REPORT || call == CLOCK || call == UNPLUG || call == ON_AIR || call == LOOK_UP;
     default:
         return 0;
     }
+}
+
+/* Whether a call may give this second number: a status of why, of a look-up a slot with the slots walked, else 0. */
+static int may_give(int call, uint64_t result)
+{
+    if (hub_answer(result) != HUB_DONE || (call != WHY && call != LOOK_UP))
+        return hub_extra(result) == 0;
+    if (call == WHY)
+        return hub_extra(result) <= 0x14;
+    return hub_walked(result) <= HUB_SLOTS && (hub_slot(result) == HUB_SLOTS || hub_slot(result) + 1 == hub_walked(result));
 }
 
 /* What is wrong with a call's result and with what it left, or null. */
@@ -92,13 +113,13 @@ static const char *fault(int call, uint64_t result)
     unsigned answer = hub_answer(result);
     size_t count = hub_count(result), lent = call == SAVE ? HUB_IMAGE_MAX : HUB_REPLY_MIN;
     int same = memcmp(state, changed, HUB_STATE_LEN) == 0;
-    if (!may_answer(call, answer) || hub_extra(result) > (call == WHY && answer == HUB_DONE ? 0x14 : 0))
+    if (!may_answer(call, answer) || !may_give(call, result))
         return "an answer that it does not have";
-    if (count > lent || (count != 0 && answer != HUB_DONE && answer != HUB_REFUSED))
+    if (count > lent || (count != 0 && (call == LOOK_UP || (answer != HUB_DONE && answer != HUB_REFUSED))))
         return "a count that cannot be";
     if (memcmp((call == SAVE ? room : reply) + count, filler, lent - count) != 0)
         return "octets written past the count";
-    if (!same && (call == SAVE || call == ON_AIR || call == WHY || answer > HUB_STARTED))
+    if (!same && (call == SAVE || call == ON_AIR || call == WHY || call == LOOK_UP || answer > HUB_STARTED))
         return "a state changed by a call that is refused";
     if (!same && hub_answer(hub_save(state, HUB_STATE_LEN, room, HUB_IMAGE_MAX)) != HUB_DONE)
         return "a state left that the next call does not take";
@@ -107,7 +128,7 @@ static const char *fault(int call, uint64_t result)
     return NULL;
 }
 
-/* Lends the changed state to the seven calls. */
+/* Lends the changed state to the eight calls. */
 static void try_change(size_t at)
 {
     unsigned refusing = 0;

@@ -124,6 +124,22 @@ static unsigned whys(void)
     return worst;
 }
 
+/* Look-ups in each table at 0: of the first key, of the last, of one that is absent, and of one that is no key. */
+static unsigned look_ups(void)
+{
+    static const unsigned entries[3] = { 0, 31, 40 };
+    unsigned worst = 0;
+    for (unsigned table = 0; table < 6; table++)
+        for (unsigned k = 0; k < 3; k++) {
+            uint8_t key[16];
+            uint64_t args[10] = { ARG(state), HUB_STATE_LEN, 0, table, ARG(key), put_key(key, table, entries[k]) };
+            worst = most(worst, takes((entry)hub_look_up, args, HUB_DONE));
+            args[5]--;
+            worst = most(worst, takes((entry)hub_look_up, args, HUB_BAD_ARGUMENT));
+        }
+    return worst;
+}
+
 /* Everything else. */
 static void others(void)
 {
@@ -147,6 +163,7 @@ static void others(void)
     printf("hub_name %u\n", takes((entry)hub_name, name, HUB_DONE));
     printf("hub_on_air %u\n", takes((entry)hub_on_air, on_air, HUB_DONE));
     printf("hub_why %u\n", whys());
+    printf("hub_look_up %u\n", look_ups());
     printf("hub_load %u\n", takes((entry)hub_load, load, HUB_DONE));
     must("unplug", hub_unplug(base, sizeof base, 1, reply, sizeof reply), HUB_DONE);
     printf("hub_plug %u\n", takes((entry)hub_plug, plug, HUB_DONE));

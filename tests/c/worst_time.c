@@ -10,9 +10,9 @@
 
 #include "busy.h"
 
-enum { ROUNDS = 8, TRIES = 25, OCTETS = 16, ENTRIES = 10, WHY = 9, COMMANDS = 21, INPUTS = 33 + COMMANDS + 3 };
+enum { ROUNDS = 8, TRIES = 25, OCTETS = 16, ENTRIES = 11, WHY = 9, LOOK_UP = 10, COMMANDS = 21, INPUTS = 33 + COMMANDS + 3 + 12 };
 
-/* A call: an entry by its number, a packet for a command and for the question why, a reading for the clock, else an index. */
+/* A call: an entry by its number, a packet for a command and for the question why, a key with its table for a look-up, a reading for the clock, or an index. */
 struct input {
     int entry;
     unsigned index;
@@ -20,7 +20,7 @@ struct input {
 };
 
 static const char *const names[ENTRIES] = { "hub_command", "hub_report", "hub_clock", "hub_plug", "hub_unplug", "hub_save", "hub_load",
-                                            "hub_name", "hub_on_air", "hub_why" };
+                                            "hub_name", "hub_on_air", "hub_why", "hub_look_up" };
 static const uint8_t address[6] = { 1, 2, 3, 4, 5, 6 };
 static uint8_t full[HUB_STATE_LEN], state[HUB_STATE_LEN], image[HUB_IMAGE_MAX], reply[HUB_IMAGE_MAX];
 static struct input inputs[INPUTS];
@@ -136,6 +136,17 @@ static void make_questions(void)
     }
 }
 
+/* Look-ups at the last controller, in each table: of the last record, and of one that is absent. */
+static void make_look_ups(unsigned octet)
+{
+    for (unsigned k = 0; k < 12; k++) {
+        const unsigned table = k / 2;
+        struct packet *packet = &input(LOOK_UP, table)->packet;
+        put_record(packet->octets, (int)table, 31 + k % 2, octet);
+        packet->length = table == HUB_UUIDS ? 16 : 7;
+    }
+}
+
 /* The calls that have most to do. */
 static void make_inputs(unsigned octet)
 {
@@ -168,6 +179,7 @@ static void make_inputs(unsigned octet)
     for (int entry = 3; entry < WHY; entry++)
         input(entry, 3);
     make_questions();
+    make_look_ups(octet);
 }
 
 static uint64_t call(const struct input *in)
@@ -182,6 +194,7 @@ static uint64_t call(const struct input *in)
     case 6: return hub_load(state, sizeof state, image, sizeof image);
     case 7: return hub_name(state, sizeof state, in->index, 0, reply, HUB_REPLY_MIN);
     case 8: return hub_on_air(state, sizeof state, in->index, reply, HUB_REPLY_MIN);
+    case LOOK_UP: return hub_look_up(state, sizeof state, 3, in->index, in->packet.octets, in->packet.length);
     default: return hub_why(state, sizeof state, in->packet.octets, in->packet.length, reply, 256);
     }
 }

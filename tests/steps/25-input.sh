@@ -1,5 +1,5 @@
 #!/usr/bin/env bash
-# a busy state with each octet changed in turn; bad input of every length, of advertising, of addresses and to hub_why, from C; a part under valgrind
+# a busy state with each octet changed in turn; bad input of every length, of advertising, of addresses, to hub_why and hub_look_up; a part under valgrind
 set -euo pipefail
 cd "$(dirname "$0")/../.."
 . tests/steps/tools.sh
@@ -8,7 +8,7 @@ need gcc valgrind
 library
 out=target/tests/c
 mkdir -p "$out"
-for program in one_octet bad_input bad_advertising bad_addresses bad_why; do
+for program in one_octet bad_input bad_advertising bad_addresses bad_why bad_look_up; do
     gcc -std=c11 -g -O1 -Wall -Wextra -Werror -Iinclude "tests/c/$program.c" target/staticlib/libhub.a -o "$out/$program"
     "$out/$program"
 done
@@ -18,3 +18,4 @@ valgrind --quiet --error-exitcode=9 "$out/bad_input" "${HUB_STRIDE:-101}"
 valgrind --quiet --error-exitcode=9 "$out/bad_advertising"
 valgrind --quiet --error-exitcode=9 "$out/bad_addresses"
 valgrind --quiet --error-exitcode=9 "$out/bad_why" "${HUB_STRIDE:-101}"
+valgrind --quiet --error-exitcode=9 "$out/bad_look_up"

@@ -3,8 +3,10 @@
 
 use crate::addresses;
 use crate::lists::{Lists, IMAGES};
+use crate::look_ups::{LookUps, LOOK_UPS};
 use crate::packets::{Packets, PACKETS};
 use crate::situations::situations;
+use crate::walks::{self, Walks};
 use crate::whys::{note, Whys};
 use reference::codes::{answer, event, IMAGE_ROOM, REPLY_ROOM};
 use reference::packet::{little_endian, Packet, HEADER};
@@ -30,12 +32,16 @@ pub struct Histogram {
     pub situations: BTreeMap<&'static str, usize>,
     /// By what is told of a packet, before it is given or after a list.
     pub whys: Whys,
+    /// By table and what a look-up in it came to, after a call or after a list.
+    pub walks: Walks,
     /// All calls.
     pub calls: usize,
     /// Images loaded after the lists.
     pub images: usize,
     /// Packets asked about after the lists.
     pub packets: usize,
+    /// Look-ups after the calls and after the lists.
+    pub look_ups: usize,
 }
 
 /// What is known of a call before it is made.
@@ -118,12 +124,15 @@ impl Note {
 }
 
 impl Histogram {
-    /// Runs so many random calls, with packets to ask about and images after each list, and counts them.
+    /// Runs so many random calls, with a look-up after each, and with look-ups, packets to ask about and images after each
+    /// list, and counts them.
     pub fn of_run(count: usize, seed: u64) -> Histogram {
         let (mut lists, mut packets) = (Lists::new(seed), Packets::new(seed));
+        let mut look_ups = LookUps::new(seed);
         let mut histogram = Histogram::default();
         while histogram.calls < count {
             let (_, mut hub) = lists.start();
+            look_ups.start();
             while let Some(call) = lists.next(&hub) {
                 if let Call::Command { packet, .. } = &call {
                     note(&mut histogram.whys, &hub, packet);
@@ -131,7 +140,9 @@ impl Histogram {
                 let note = Note::new(&hub, &call);
                 let reply = hub.call(&call);
                 histogram.add(note, &call, &reply);
+                histogram.look_up(&mut look_ups, &hub, 1);
             }
+            histogram.look_up(&mut look_ups, &hub, LOOK_UPS);
             for _ in 0..PACKETS {
                 note(&mut histogram.whys, &hub, &packets.next(&hub));
             }
@@ -141,6 +152,14 @@ impl Histogram {
             }
         }
         histogram
+    }
+
+    /// Makes so many look-ups and counts what they come to.
+    fn look_up(&mut self, look_ups: &mut LookUps, hub: &Hub, count: usize) {
+        self.look_ups += count;
+        for _ in 0..count {
+            walks::note(&mut self.walks, hub, &look_ups.next(hub));
+        }
     }
 
     /// Counts what is special about an image.
@@ -180,7 +199,8 @@ impl Histogram {
 
 impl Display for Histogram {
     fn fmt(&self, out: &mut Formatter<'_>) -> Result {
-        writeln!(out, "{} calls, {} packets, {} images", self.calls, self.packets, self.images)?;
+        let Histogram { calls, packets, look_ups, images, .. } = self;
+        writeln!(out, "{calls} calls, {packets} packets, {look_ups} look-ups, {images} images")?;
         writeln!(out, "\ncall, answer, status:")?;
         for ((what, answer, status), count) in &self.statuses {
             let status = status.map(|status| format!("{status:#04x}")).unwrap_or("-".into());
@@ -201,6 +221,10 @@ impl Display for Histogram {
         writeln!(out, "\ntold of a packet, place:")?;
         for ((wording, form), count) in &self.whys {
             writeln!(out, "{count:9}  {wording}  ({form})")?;
+        }
+        writeln!(out, "\nlooked up in a table:")?;
+        for ((table, what), count) in &self.walks {
+            writeln!(out, "{count:9}  {table}  {what}")?;
         }
         writeln!(out, "\nsituations:")?;
         for (situation, count) in &self.situations {

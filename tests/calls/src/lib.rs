@@ -11,6 +11,7 @@ pub mod generator;
 pub mod histogram;
 pub mod instances;
 pub mod lists;
+pub mod look_ups;
 pub mod on_air;
 pub mod packets;
 pub mod parameters;
@@ -19,6 +20,7 @@ pub mod random;
 pub mod records;
 pub mod situations;
 pub mod spoiling;
+pub mod walks;
 pub mod whys;
 
 pub use generator::Generator;

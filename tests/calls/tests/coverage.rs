@@ -1,8 +1,8 @@
-//! A run of 200,000 calls reaches every refusal, every wording of why with each form of place, and every situation.
+//! A run of 200,000 calls reaches every refusal, every wording of why with each form of place, every kind of look-up in each table, and every situation.
 
 use calls::coverage::{expected_orders, expected_refusals};
 use calls::histogram::Histogram;
-use calls::{addresses, on_air, situations, whys};
+use calls::{addresses, on_air, situations, walks, whys};
 
 #[test]
 fn every_refusal_and_situation_is_reached() {
@@ -16,6 +16,9 @@ fn every_refusal_and_situation_is_reached() {
         }
         for told in whys::expected() {
             assert!(run.whys.contains_key(&told), "seed {seed}: {told:?} is missing");
+        }
+        for walk in walks::expected() {
+            assert!(run.walks.contains_key(&walk), "seed {seed}: {walk:?} is missing");
         }
         let situations =
             situations::EXPECTED.into_iter().chain(on_air::EXPECTED).chain(addresses::expected());
@@ -35,6 +38,10 @@ fn no_refusal_is_reached_that_is_not_expected() {
     let expected = whys::expected();
     for told in run.whys.keys() {
         assert!(expected.contains(told), "{told:?} is not expected");
+    }
+    let expected = walks::expected();
+    for walk in run.walks.keys() {
+        assert!(expected.contains(walk), "{walk:?} is not expected");
     }
 }
 

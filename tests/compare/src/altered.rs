@@ -2,6 +2,7 @@
 
 use crate::layout::{block, ADVERTISING};
 use crate::lent::{Difference, Lent};
+use crate::look_up::{edge_keys, look_up_agrees, look_up_refused};
 use crate::run::{same, step};
 use crate::schedule::{write, ADV_DATA, DURATIONS, EACH, OCTETS, SCAN_RSP, TIMEOUTS, TURN};
 use crate::switches::{read, LOW_ENERGY, POWERED};
@@ -12,6 +13,7 @@ use calls::Random;
 use reference::advertising::{Advertising, Instance, Turn, INSTANCES};
 use reference::codes::{answer, command as code, REPLY_ROOM};
 use reference::controller::Controller;
+use reference::look_up::{key_length, TABLES};
 use reference::packet::frame;
 use reference::why::TEXT_ROOM;
 use reference::{Call, Hub, Reply};
@@ -158,6 +160,9 @@ pub fn taken<T: Target>(
     let found = lent.name(index, 0, REPLY_ROOM, T::STATE_LEN)?;
     same("name", &hub.name(index, 0, REPLY_ROOM), &found)?;
     why_agrees(lent, hub, &some_packet(index))?;
+    for table in 0..TABLES.len() as u64 {
+        look_up_agrees(lent, hub, index, table, &edge_keys(hub, index, table)[0])?;
+    }
     step(lent, hub, call).map(|_| ()).map_err(|difference| format!("{call:?}: {difference}"))
 }
 
@@ -167,6 +172,9 @@ pub fn refused<T: Target>(lent: &mut Lent<T>, index: usize, call: &Call) -> Resu
     same("on air", &expected, &lent.on_air(index as u64, REPLY_ROOM, T::STATE_LEN)?)?;
     same("name", &expected, &lent.name(index as u64, 0, REPLY_ROOM, T::STATE_LEN)?)?;
     same("why", &expected, &lent.why(&some_packet(index as u64), TEXT_ROOM, T::STATE_LEN)?.0)?;
+    for table in 0..TABLES.len() as u64 {
+        look_up_refused(lent, index as u64, table, &vec![0; key_length(table).unwrap_or(0)])?;
+    }
     same("the call", &expected, &lent.call(call)?)
 }
 

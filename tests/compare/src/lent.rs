@@ -101,6 +101,14 @@ impl<T: Target> Lent<T> {
         Ok((self.after_question(low, room, length)?, extra))
     }
 
+    /// Looks up a key, with a state buffer of a length; gives the whole number. Nothing is written.
+    pub fn look_up(&mut self, index: u64, table: u64, key: &[u8], length: usize) -> Result<u64, Difference> {
+        self.before.copy_from_slice(&self.state);
+        let number = self.target.look_up(&self.state[..length], index, table, key);
+        need(self.state == self.before, || "a look-up changed the state".into())?;
+        Ok(number)
+    }
+
     /// What a question gave; an error if the state changed.
     fn after_question(&self, number: u64, room: usize, length: usize) -> Result<Reply, Difference> {
         need(self.state == self.before, || "a question changed the state".into())?;

@@ -6,9 +6,15 @@
 
 pub mod addresses;
 pub mod altered;
+pub mod broken;
+#[cfg(test)]
+mod example_tests;
 pub mod identities;
 pub mod layout;
 pub mod lent;
+pub mod look_up;
+#[cfg(test)]
+mod look_up_tests;
 pub mod mirror;
 pub mod playing;
 pub mod questions;
@@ -23,6 +29,8 @@ mod tests;
 pub mod why;
 #[cfg(test)]
 mod why_tests;
+#[cfg(test)]
+mod wrong_look_up;
 #[cfg(test)]
 mod wrong_rule;
 #[cfg(test)]

@@ -61,6 +61,15 @@ extern "C" {
         text: *mut u8,
         text_len: usize,
     ) -> u64;
+    /// Where a key stands in a table is asked for.
+    fn hub_look_up(
+        state: *const u8,
+        state_len: usize,
+        index: u64,
+        table: u64,
+        key: *const u8,
+        key_len: usize,
+    ) -> u64;
     /// A state is made from an image.
     fn hub_load(state: *mut u8, state_len: usize, image: *const u8, image_len: usize) -> u64;
 }
@@ -117,6 +126,11 @@ impl Target for Library {
         let (state, state_len) = (state.as_ptr(), state.len());
         // As above.
         unsafe { hub_why(state, state_len, packet.as_ptr(), packet.len(), text.as_mut_ptr(), text.len()) }
+    }
+
+    fn look_up(&self, state: &[u8], index: u64, table: u64, key: &[u8]) -> u64 {
+        // As above.
+        unsafe { hub_look_up(state.as_ptr(), state.len(), index, table, key.as_ptr(), key.len()) }
     }
 
     fn load(&mut self, state: &mut [u8], image: &[u8]) -> u64 {

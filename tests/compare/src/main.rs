@@ -26,7 +26,29 @@ fn show(failure: &Failure) {
     for call in &failure.calls {
         println!("  {call:02X?}");
     }
+    if let Some(question) = &failure.look_up {
+        println!("  {question:02X?}");
+    }
     println!("{}", failure.difference);
+}
+
+/// Prints how much was compared, and the time since the start.
+fn figures(comparison: &Comparison<Library>, start: Instant) {
+    println!(
+        "{} calls in {} lists, {} calls of reduced lists, {} commands under way at an end",
+        comparison.calls, comparison.runs, comparison.reduced, comparison.left_open,
+    );
+    println!(
+        "{} look-ups, {} states with a broken table, {} packets asked about at an end",
+        comparison.looked_up, comparison.broken, comparison.asked,
+    );
+    println!(
+        "{} images, {} altered states ({} well formed), {:.1} s",
+        comparison.images,
+        comparison.altered.lent,
+        comparison.altered.well_formed,
+        start.elapsed().as_secs_f64()
+    );
 }
 
 /// Runs the comparison.
@@ -44,18 +66,7 @@ fn main() -> ExitCode {
         }
     }
     let result = comparison.run(count);
-    println!(
-        "{} calls in {} lists, {} calls of reduced lists, {} commands under way at an end",
-        comparison.calls, comparison.runs, comparison.reduced, comparison.left_open,
-    );
-    println!(
-        "{} packets asked about at an end, {} images, {} altered states ({} well formed), {:.1} s",
-        comparison.asked,
-        comparison.images,
-        comparison.altered.lent,
-        comparison.altered.well_formed,
-        start.elapsed().as_secs_f64()
-    );
+    figures(&comparison, start);
     match result {
         Ok(()) => {
             println!("no difference");

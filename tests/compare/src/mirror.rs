@@ -9,11 +9,12 @@ use crate::layout::{block, encode, ADVERTISING, IDENTITY_KEYS, LONG_TERM_KEYS, S
 use crate::switches::{self, LOW_ENERGY, POWERED};
 use crate::target::Target;
 use reference::codes::answer;
-use reference::{Call, Hub, Reply};
+use reference::reason::ArgumentFault;
+use reference::{Call, Hub, LookUp, Reply};
 use std::collections::VecDeque;
 
-/// How many states are kept.
-const KEPT: usize = 16;
+/// How many states are kept: more than come from altered states between two uses of a list's own.
+const KEPT: usize = 64;
 
 /// The last states.
 #[derive(Default)]
@@ -28,6 +29,14 @@ pub fn number(reply: &Reply, buffer: &mut [u8]) -> u64 {
     u64::from(reply.answer) + 256 * reply.octets.len() as u64
 }
 
+/// The number that a C host gets for a look-up.
+pub fn look_up_number(found: Result<LookUp, ArgumentFault>) -> u64 {
+    match found {
+        Ok(found) => u64::from(answer::DONE) + (found.number() << 32),
+        Err(_) => answer::ARGUMENT.into(),
+    }
+}
+
 impl Mirror {
     /// The hub that a buffer stands for.
     pub fn read(&self, state: &[u8]) -> Option<Hub> {
@@ -37,8 +46,8 @@ impl Mirror {
 
     /// The hub that a buffer stands for which differs from a kept state in the parts alone that are read.
     fn read_altered(&self, state: &[u8]) -> Option<Hub> {
-        let like = |hub: &Hub| {
-            let mut octets = encode(hub);
+        let like = |octets: &[u8], hub: &Hub| {
+            let mut octets = octets.to_vec();
             for index in hub.state().present() {
                 let (kept, found) = (&mut octets[block(index)], state.get(block(index))?);
                 let flags = [POWERED, LOW_ENERGY].map(|at| at..at + 1);
@@ -49,7 +58,7 @@ impl Mirror {
             }
             (octets == state).then_some(())
         };
-        let (_, kept) = self.kept.iter().rev().find(|(_, hub)| like(hub).is_some())?;
+        let (_, kept) = self.kept.iter().rev().find(|(octets, hub)| like(octets, hub).is_some())?;
         let mut hub = kept.clone();
         for index in kept.state().present() {
             let (controller, open) =
@@ -65,11 +74,15 @@ impl Mirror {
     fn write(&mut self, state: &mut [u8], hub: Hub) {
         let octets = encode(&hub);
         state.copy_from_slice(&octets);
-        if !self.kept.iter().any(|(kept, _)| *kept == octets) {
-            self.kept.push_back((octets, hub));
-            if self.kept.len() > KEPT {
-                self.kept.pop_front();
-            }
+        self.keep(octets, hub);
+    }
+
+    /// Keeps a state as the last one used; the one that was not used for longest goes.
+    fn keep(&mut self, octets: Vec<u8>, hub: Hub) {
+        self.kept.retain(|(kept, _)| *kept != octets);
+        self.kept.push_back((octets, hub));
+        if self.kept.len() > KEPT {
+            self.kept.pop_front();
         }
     }
 }
@@ -81,6 +94,7 @@ impl Target for Mirror {
         let Some(mut hub) = self.read(state) else {
             return answer::STATE.into();
         };
+        self.keep(state.to_vec(), hub.clone());
         let given = hub.call(call);
         if given.answer <= answer::STARTED {
             self.write(state, hub);
@@ -108,6 +122,13 @@ impl Target for Mirror {
                 let (reply, status) = hub.why(packet, text.len());
                 number(&reply, text) + (u64::from(status) << 32)
             }
+            None => answer::STATE.into(),
+        }
+    }
+
+    fn look_up(&self, state: &[u8], index: u64, table: u64, key: &[u8]) -> u64 {
+        match self.read(state) {
+            Some(hub) => look_up_number(hub.look_up(index, table, key)),
             None => answer::STATE.into(),
         }
     }

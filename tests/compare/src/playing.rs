@@ -33,11 +33,16 @@ pub fn play<T: Target>(example: &Example, target: T) -> Result<usize, String> {
     let mut lent = Lent::new(target);
     lent.load(&EMPTY)?;
     for line in &example.lines {
-        let (came, status) = match &line.step {
+        let (came, extra) = match &line.step {
             Step::Call(call) => (lent.call(call)?, 0),
             Step::Load(image) => (Reply::bare(lent.load(image)?), 0),
             Step::OnAir { index, room } => (lent.on_air(*index, *room, T::STATE_LEN)?, 0),
             Step::Why { packet, room } => lent.why(packet, *room, T::STATE_LEN)?,
+            Step::LookUp { index, table, key } => {
+                let number = lent.look_up(*index, *table, key, T::STATE_LEN)?;
+                let answer = u8::try_from(number & 0xFFFF_FFFF).map_err(|_| "a look-up counts octets")?;
+                (Reply::bare(answer), number >> 32)
+            }
         };
         let at = |difference| format!("line {}: {difference}", line.number);
         if let Some(difference) = difference(&line.gives, &came) {
@@ -45,8 +50,8 @@ pub fn play<T: Target>(example: &Example, target: T) -> Result<usize, String> {
             let told = if matches!(line.step, Step::Why { .. }) { text } else { String::new() };
             return Err(at(format!("{told} {difference}")));
         }
-        if line.status != status {
-            return Err(at(format!("status {status} for {}", line.status)));
+        if line.extra != extra {
+            return Err(at(format!("the second number is {extra:#x} for {:#x}", line.extra)));
         }
     }
     Ok(example.lines.len())

@@ -1,6 +1,8 @@
-//! What a host may ask: the names of every index and what is on air there, asked for on a target and on the reference hub.
+//! What a host may ask: the names of every index, what is on air there and where keys stand in its tables, asked for on a target and on
+//! the reference hub.
 
 use crate::lent::{Difference, Lent};
+use crate::look_up::look_ups_agree;
 use crate::run::same;
 use crate::target::Target;
 use reference::codes::{answer, REPLY_ROOM};
@@ -14,7 +16,8 @@ const NAMES: [u64; 6] = [0, 1, 2, 256, 1 << 32, u64::MAX];
 /// Asks both everything.
 pub fn questions_agree<T: Target>(lent: &mut Lent<T>, hub: &Hub) -> Result<(), Difference> {
     names_agree(lent, hub)?;
-    on_air_agrees(lent, hub)
+    on_air_agrees(lent, hub)?;
+    look_ups_agree(lent, hub, &INDEXES)
 }
 
 /// Asks both for all names; then with too little room, and with a state buffer that is too short.

@@ -1,12 +1,15 @@
 //! Random lists and images on a target and on the reference hub side by side.
 
 use crate::altered::{altered_states_agree, Altered};
+use crate::broken::broken_tables_agree;
 use crate::layout::{cleared, encode, encode_at_once, same_state};
 use crate::lent::{Difference, Lent};
+use crate::look_up::{look_up_of_no_state, question_agrees};
 use crate::questions::questions_agree;
 use crate::target::Target;
 use crate::why::{why_agrees, why_agrees_in_any_room, why_of_no_state};
 use calls::lists::{Lists, IMAGES};
+use calls::look_ups::{LookUps, Question, LOOK_UPS};
 use calls::packets::{Packets, PACKETS};
 use calls::Random;
 use reference::codes::{answer, CONTROLLERS, IMAGE_ROOM, REPLY_ROOM};
@@ -24,6 +27,8 @@ pub struct Comparison<T: Target> {
     lists: Lists,
     /// Where the packets that are asked about come from.
     packets: Packets,
+    /// Where the look-ups come from.
+    look_ups: LookUps,
     /// Where the altered states come from.
     random: Random,
     /// The state buffer that the lists run on.
@@ -42,6 +47,10 @@ pub struct Comparison<T: Target> {
     pub left_open: usize,
     /// Packets asked about at the end of a list.
     pub asked: usize,
+    /// Look-ups drawn, after each call and at the end of a list.
+    pub looked_up: usize,
+    /// States lent with a broken table.
+    pub broken: usize,
     /// States lent with another advertising part.
     pub altered: Altered,
 }
@@ -52,6 +61,8 @@ pub struct Failure {
     pub image: Vec<u8>,
     /// The calls up to the difference.
     pub calls: Vec<Call>,
+    /// The look-up behind them, if that is what they differ on.
+    pub look_up: Option<Question>,
     /// The difference.
     pub difference: Difference,
 }
@@ -109,6 +120,7 @@ impl<T: Target> Comparison<T> {
         Comparison {
             lists: Lists::new(seed),
             packets: Packets::new(seed),
+            look_ups: LookUps::new(seed),
             random: Random::new(!seed),
             lent: Lent::new(target),
             at_once: Lent::new(other),
@@ -118,6 +130,8 @@ impl<T: Target> Comparison<T> {
             reduced: 0,
             left_open: 0,
             asked: 0,
+            looked_up: 0,
+            broken: 0,
             altered: Altered::default(),
         }
     }
@@ -135,7 +149,8 @@ impl<T: Target> Comparison<T> {
             for _ in 0..IMAGES {
                 let image = self.lists.image();
                 let result = self.compare_image(&image);
-                result.map_err(|difference| Failure { image, calls: Vec::new(), difference })?;
+                let failure = |difference| Failure { image, calls: Vec::new(), look_up: None, difference };
+                result.map_err(failure)?;
             }
         }
         Ok(())
@@ -145,7 +160,9 @@ impl<T: Target> Comparison<T> {
     fn run_list(&mut self) -> Result<(), Failure> {
         let (image, mut hub) =
             if self.runs % OPEN_ENDS == 1 { self.lists.start_open() } else { self.lists.start() };
+        self.look_ups.start();
         let mut list = Vec::new();
+        let mut look_up = None;
         let mut result = self.begin(&image);
         while result.is_ok() {
             let Some(call) = self.lists.next(&hub) else { break };
@@ -153,12 +170,14 @@ impl<T: Target> Comparison<T> {
             result = reply.as_ref().map(|_| ()).map_err(|difference| difference.clone());
             list.push(Traced::new(call, reply.unwrap_or(Reply::bare(answer::STATE))));
             self.calls += 1;
+            result = result.and_then(|()| self.look(&hub, 1, &mut look_up));
             if result.is_ok() && list.len() % SAVES == 0 {
                 result = images_agree(&mut self.lent, &hub.save(IMAGE_ROOM));
                 result = result.and_then(|()| questions_agree(&mut self.lent, &hub));
             }
         }
         let result = result.and_then(|()| self.finish(&image, &hub, &list));
+        let result = result.and_then(|()| self.look(&hub, LOOK_UPS, &mut look_up));
         let mut calls: Vec<Call> = list.into_iter().map(|traced| traced.call).collect();
         let asked = result.is_ok().then(|| self.ask(&hub)).flatten();
         let result = match asked {
@@ -168,7 +187,20 @@ impl<T: Target> Comparison<T> {
                 Err(difference)
             }
         };
-        result.map_err(|difference| Failure { image, calls, difference })
+        result.map_err(|difference| Failure { image, calls, look_up, difference })
+    }
+
+    /// Makes so many look-ups on both; the first that they differ on is kept.
+    fn look(&mut self, hub: &Hub, count: usize, kept: &mut Option<Question>) -> Result<(), Difference> {
+        for _ in 0..count {
+            let question = self.look_ups.next(hub);
+            self.looked_up += 1;
+            if let Err(difference) = question_agrees(&mut self.lent, hub, &question) {
+                *kept = Some(question);
+                return Err(difference);
+            }
+        }
+        Ok(())
     }
 
     /// Asks why packets would be refused; gives the first that the two differ on, with the difference.
@@ -216,7 +248,9 @@ impl<T: Target> Comparison<T> {
         let expected = encode_at_once(plain.state());
         same_state("the state of the reduced list, reported at once", &expected, self.at_once.state())?;
         same_state("the state, open commands cleared", &expected, &cleared(self.lent.state()))?;
-        altered_states_agree(&mut self.lent, hub, &mut self.random, &mut self.altered)
+        altered_states_agree(&mut self.lent, hub, &mut self.random, &mut self.altered)?;
+        self.broken += broken_tables_agree(&mut self.lent, hub, &mut self.random)?;
+        Ok(())
     }
 
     /// Loads an image on both and compares what it makes.
@@ -241,6 +275,7 @@ impl<T: Target> Comparison<T> {
             same(&format!("a state of 0xFF: {call:?}"), &Reply::bare(answer::STATE), &found)?;
         }
         why_of_no_state(&mut self.lent)?;
+        look_up_of_no_state(&mut self.lent)?;
         for length in [0, T::STATE_LEN - 1, T::STATE_LEN + 1] {
             let found = self.lent.load_with_length(&calls::lists::EMPTY, length)?;
             if found != answer::STATE {

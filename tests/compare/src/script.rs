@@ -1,6 +1,6 @@
 //! Examples in words: calls, and what each gives. `examples/README.md` has the grammar.
 
-use reference::codes::{answer, IMAGE_ROOM, REPLY_ROOM};
+use reference::codes::{answer, IMAGE_ROOM, REPLY_ROOM, SLOTS};
 use reference::why::TEXT_ROOM;
 use reference::{Call, Reply};
 
@@ -24,6 +24,15 @@ pub enum Step {
         /// Length of the text buffer.
         room: usize,
     },
+    /// Where a key stands is asked for.
+    LookUp {
+        /// The controller.
+        index: u64,
+        /// The table's number.
+        table: u64,
+        /// The key.
+        key: Vec<u8>,
+    },
 }
 
 /// A call with what it gives.
@@ -34,8 +43,8 @@ pub struct Line {
     pub step: Step,
     /// Its answer and every octet that it writes.
     pub gives: Reply,
-    /// The status that it tells; 0 for every call but why.
-    pub status: u64,
+    /// The second number: the status that why tells, slot and slots walked of a look-up, 0 for every other call.
+    pub extra: u64,
 }
 
 /// An example: a list of calls from the fresh state.
@@ -60,12 +69,12 @@ pub fn examples(text: &str) -> Vec<Example> {
         let words: Vec<&str> = line.split_whitespace().collect();
         match words[0] {
             "room" => room = Some(value(words[1]) as usize),
-            "gives" | "tells" => {
+            "gives" | "tells" | "finds" => {
                 let (number, step) =
                     asked.take().unwrap_or_else(|| panic!("line {number}: no call gives this"));
-                let (gives, status) = result(&words);
+                let (gives, extra) = result(&words);
                 let example = examples.last_mut().expect("a title comes first");
-                example.lines.push(Line { number, step, gives, status });
+                example.lines.push(Line { number, step, gives, extra });
             }
             _ => {
                 assert!(asked.is_none(), "line {number}: the call before gives nothing");
@@ -77,12 +86,27 @@ pub fn examples(text: &str) -> Vec<Example> {
     examples
 }
 
-/// What a call gives, or the status and the text that a question tells.
+/// What a call gives, with its second number: the status and the text that a question tells, the slot that a look-up finds and the slots
+/// that it walks.
 fn result(words: &[&str]) -> (Reply, u64) {
-    let number = value(words[1]);
     match words[0] {
-        "tells" => (Reply { answer: answer::DONE, octets: words[2..].join(" ").into_bytes() }, number),
-        _ => (Reply { answer: number as u8, octets: octets(&words[2..]) }, 0),
+        "tells" => {
+            (Reply { answer: answer::DONE, octets: words[2..].join(" ").into_bytes() }, value(words[1]))
+        }
+        "finds" => {
+            let slot = if words[1] == "none" { SLOTS as u64 } else { value(words[1]) };
+            (Reply::bare(answer::DONE), slot + 256 * value(words[2]))
+        }
+        _ => (Reply { answer: value(words[1]) as u8, octets: octets(&words[2..]) }, 0),
+    }
+}
+
+/// The number of a table: one of six names, or a number.
+fn table(word: &str) -> u64 {
+    let names = ["uuids", "link-keys", "long-term-keys", "identity-keys", "blocked", "devices"];
+    match names.iter().position(|name| *name == word) {
+        Some(number) => number as u64,
+        None => value(word),
     }
 }
 
@@ -108,6 +132,9 @@ fn step(words: &[&str], room: Option<usize>) -> Step {
     Step::Call(match words[0] {
         "load" => return Step::Load(octets(&words[1..])),
         "on-air" => return Step::OnAir { index: number(1), room: replies },
+        "look-up" => {
+            return Step::LookUp { index: number(1), table: table(words[2]), key: octets(&words[3..]) };
+        }
         "why" => return Step::Why { packet: octets(&words[1..]), room: room.unwrap_or(TEXT_ROOM) },
         "command" => Call::Command { packet: octets(&words[1..]), room: replies },
         "report" => Call::Report { index: number(1), status: number(2), room: replies },

@@ -1,14 +1,21 @@
 //! Shorter lists that show the same kind of difference.
 
 use crate::lent::{Difference, Lent};
+use crate::look_up::question_agrees;
 use crate::questions::questions_agree;
 use crate::run::{image_agrees, images_agree, step, Failure};
 use crate::target::Target;
+use calls::look_ups::Question;
 use reference::codes::IMAGE_ROOM;
 use reference::{Call, Hub};
 
-/// Runs a list of fixed calls on both and gives the first difference.
-pub fn replay<T: Target>(lent: &mut Lent<T>, image: &[u8], calls: &[Call]) -> Option<Difference> {
+/// Runs a list of fixed calls on both, with a look-up behind them if there is one, and gives the first difference.
+pub fn replay<T: Target>(
+    lent: &mut Lent<T>,
+    image: &[u8],
+    calls: &[Call],
+    look_up: Option<&Question>,
+) -> Option<Difference> {
     let mut hub = Hub::new();
     if let Err(difference) = image_agrees(lent, &mut hub, image) {
         return Some(difference);
@@ -18,6 +25,9 @@ pub fn replay<T: Target>(lent: &mut Lent<T>, image: &[u8], calls: &[Call]) -> Op
             return Some(difference);
         }
     }
+    if let Some(Err(difference)) = look_up.map(|question| question_agrees(lent, &hub, question)) {
+        return Some(difference);
+    }
     let images = images_agree(lent, &hub.save(IMAGE_ROOM));
     images.and_then(|()| questions_agree(lent, &hub)).err()
 }
@@ -25,14 +35,14 @@ pub fn replay<T: Target>(lent: &mut Lent<T>, image: &[u8], calls: &[Call]) -> Op
 /// Leaves out calls as long as a difference stays; a list whose difference does
 /// not come again is left as it is.
 pub fn shrink<T: Target>(lent: &mut Lent<T>, failure: Failure) -> Failure {
-    let Failure { image, mut calls, mut difference } = failure;
+    let Failure { image, mut calls, look_up, mut difference } = failure;
     let mut chunk = calls.len().div_ceil(2);
-    while chunk > 0 && replay(lent, &image, &calls).is_some() {
+    while chunk > 0 && replay(lent, &image, &calls, look_up.as_ref()).is_some() {
         let mut at = 0;
         while at < calls.len() {
             let end = (at + chunk).min(calls.len());
             let shorter = [&calls[..at], &calls[end..]].concat();
-            match replay(lent, &image, &shorter) {
+            match replay(lent, &image, &shorter, look_up.as_ref()) {
                 Some(found) => {
                     difference = found;
                     calls = shorter;
@@ -42,5 +52,5 @@ pub fn shrink<T: Target>(lent: &mut Lent<T>, failure: Failure) -> Failure {
         }
         chunk /= 2;
     }
-    Failure { image, calls, difference }
+    Failure { image, calls, look_up, difference }
 }

@@ -3,7 +3,7 @@
 use reference::Call;
 
 /// The calls of a hub whose state is a lent buffer. Each gives one number:
-/// answer + 256 x count + 2^32 x a second number, which `why` alone gives.
+/// answer + 256 x count + 2^32 x a second number, which `why` and `look_up` alone give.
 pub trait Target {
     /// The length of a state buffer.
     const STATE_LEN: usize;
@@ -19,6 +19,9 @@ pub trait Target {
 
     /// Why a packet would be refused, in words; the state is only read.
     fn why(&mut self, state: &[u8], packet: &[u8], text: &mut [u8]) -> u64;
+
+    /// Where a key stands in a table, and how many slots are walked to tell; the state is only read, and nothing is written.
+    fn look_up(&self, state: &[u8], index: u64, table: u64, key: &[u8]) -> u64;
 
     /// A load.
     fn load(&mut self, state: &mut [u8], image: &[u8]) -> u64;

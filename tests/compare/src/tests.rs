@@ -6,10 +6,8 @@ use crate::identities;
 use crate::layout::{block, cleared, encode, encode_at_once, same_state, ADVERTISING, STATE};
 use crate::lent::Lent;
 use crate::mirror::Mirror;
-use crate::playing::play;
 use crate::run::{Comparison, Failure};
 use crate::schedule::read;
-use crate::script::examples;
 use crate::shrink::shrink;
 use crate::switches;
 use crate::target::Target;
@@ -19,7 +17,6 @@ use reference::controller::Controller;
 use reference::packet::frame;
 use reference::records::is_static_random;
 use reference::{Call, Hub};
-use std::fs::{read_dir, read_to_string};
 
 /// The octets of a block.
 const BLOCK: usize = 4_371;
@@ -142,6 +139,10 @@ impl Target for Faulty {
 
     fn why(&mut self, state: &[u8], packet: &[u8], text: &mut [u8]) -> u64 {
         self.inner.why(state, packet, text)
+    }
+
+    fn look_up(&self, state: &[u8], index: u64, table: u64, key: &[u8]) -> u64 {
+        self.inner.look_up(state, index, table, key)
     }
 
     fn load(&mut self, state: &mut [u8], image: &[u8]) -> u64 {
@@ -477,20 +478,4 @@ fn a_wrong_answer_to_a_question_shrinks_too() {
     let small = shrink(comparison.lent(), found);
     assert!(small.calls.len() <= 4, "{:?}", small.calls);
     assert!(small.calls.iter().any(|call| is_command(call, code::ADD_ADVERTISING)));
-}
-
-#[test]
-fn the_examples_hold_of_the_reference_hub() {
-    let folder = concat!(env!("CARGO_MANIFEST_DIR"), "/../examples");
-    let paths = read_dir(folder).expect("the examples are there").map(|entry| entry.expect("a file").path());
-    let mut files = 0;
-    for path in paths.filter(|path| path.extension().is_some_and(|ending| ending == "txt")) {
-        files += 1;
-        for example in examples(&read_to_string(&path).expect("an example file")) {
-            if let Err(difference) = play(&example, Mirror::default()) {
-                panic!("{}: {}: {difference}", path.display(), example.title);
-            }
-        }
-    }
-    assert!(files > 5, "{files} files");
 }

@@ -123,6 +123,11 @@ impl Target for WrongRule {
         otherwise.unwrap_or_else(|| self.inner.why(state, packet, text))
     }
 
+    fn look_up(&self, state: &[u8], index: u64, table: u64, key: &[u8]) -> u64 {
+        let otherwise = self.otherwise(Carrier::State, state, answer::STATE);
+        otherwise.unwrap_or_else(|| self.inner.look_up(state, index, table, key))
+    }
+
     fn load(&mut self, state: &mut [u8], image: &[u8]) -> u64 {
         let otherwise = self.otherwise(Carrier::Image, image, answer::IMAGE);
         otherwise.unwrap_or_else(|| self.inner.load(state, image))

@@ -216,6 +216,10 @@ impl Target for WrongWhy {
         }
     }
 
+    fn look_up(&self, state: &[u8], index: u64, table: u64, key: &[u8]) -> u64 {
+        self.inner.look_up(state, index, table, key)
+    }
+
     fn load(&mut self, state: &mut [u8], image: &[u8]) -> u64 {
         self.inner.load(state, image)
     }

@@ -167,7 +167,7 @@ pub mod answer {
     pub const ROOM: u8 = 4;
     /// The lent state is not well formed. The reference hub lends none.
     pub const STATE: u8 = 5;
-    /// A plug, unplug, report or clock argument is wrong.
+    /// An argument of plug, unplug, report, clock or a question is wrong.
     pub const ARGUMENT: u8 = 6;
     /// The image is not acceptable.
     pub const IMAGE: u8 = 7;

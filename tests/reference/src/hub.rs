@@ -5,6 +5,7 @@ use crate::codes::{answer, status, CONTROLLERS, IMAGE_ROOM, REPLY_ROOM};
 use crate::command::Command;
 use crate::controller::Controller;
 use crate::image;
+use crate::look_up::{look_up, LookUp};
 use crate::packet::{command_status, Packet};
 use crate::reason::{ArgumentFault, Reason};
 use crate::state::{State, Verdict};
@@ -210,6 +211,11 @@ impl Hub {
             Some(controller) => done(controller.advertising.on_air()),
             None => Reply::bare(answer::ARGUMENT),
         }
+    }
+
+    /// Where a key stands in a table, which a host asks for; nothing changes. The fault is the first of index, table and length.
+    pub fn look_up(&self, index: u64, table: u64, key: &[u8]) -> Result<LookUp, ArgumentFault> {
+        look_up(self.state.controller(index).ok_or(ArgumentFault::Absent)?, table, key)
     }
 
     /// Makes the hub from an image; a refused image leaves it as it was.

@@ -182,14 +182,14 @@ impl Reason {
     }
 }
 
-/// Why a plug, unplug, report or clock call is answered 6.
+/// Why a plug, unplug, report or clock call or a look-up is answered 6.
 #[derive(Clone, Copy, PartialEq, Eq, PartialOrd, Ord, Debug, Hash)]
 pub enum ArgumentFault {
     /// An index above 3.
     IndexRange,
     /// Plug of a present index.
     Present,
-    /// Unplug of an absent index.
+    /// Unplug of an absent index, or a look-up there.
     Absent,
     /// An address that is not 6 octets long.
     AddressLength,
@@ -205,6 +205,10 @@ pub enum ArgumentFault {
     ReportStatus,
     /// A clock step that is too long.
     ClockStep,
+    /// A look-up in a table above the last.
+    Table,
+    /// A look-up of a key that is not as long as those of the table.
+    KeyLength,
 }
 
 /// Why an image is answered 7.

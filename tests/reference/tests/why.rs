@@ -431,7 +431,10 @@ fn busy_stands_behind_power_and_before_rejected() {
     plug(&mut other, 1, DUAL);
     assert_eq!(why_packet(&other, &frame(0x0005, 1, &[1])), "would be taken");
     let mut powered = powered_hub(DUAL);
-    assert_eq!(why(&powered, 0x002B, &STATIC), "Rejected: the static address cannot be set while power is on");
+    assert_eq!(
+        why(&powered, 0x002B, &STATIC),
+        "Rejected: the static address cannot be set while power is on"
+    );
     assert_eq!(send(&mut powered, 0x0007, 0, &[0]), bare(1));
     assert_eq!(why(&powered, 0x002B, &STATIC), busy);
     let mut le = hub_with(LE_ONLY);
