@@ -26,7 +26,7 @@ impl Case {
 }
 
 /// A command to index 0 with its parameters.
-fn command(code: u16, parameters: &[u8]) -> Call {
+pub fn command(code: u16, parameters: &[u8]) -> Call {
     let mut packet = Vec::new();
     for number in [code, 0, parameters.len() as u16] {
         packet.extend(number.to_le_bytes());
@@ -38,7 +38,7 @@ fn command(code: u16, parameters: &[u8]) -> Call {
 /// Load Long Term Keys with 32 records of a kind.
 fn long_term_keys(kind: Kind) -> Call {
     let mut parameters = vec![32, 0];
-    parameters.extend(states::list(2, kind));
+    parameters.extend(states::list(2, kind, 32));
     command(0x0013, &parameters)
 }
 

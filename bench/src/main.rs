@@ -5,13 +5,18 @@
 //! each call, so the plain hub is timed with a plain test of the same octets. The line also tells both times without the test: ours is
 //! what a call takes more than a save without room, which looks at the state and does nothing else.
 //!
+//! The look-up is timed besides in tables with few and many records, with gaps and without, and tells how many slots it walked.
+//!
 //! The records of a state differ in the first octet of their identity, in the last, or at random in all. The clock is timed besides on hubs with 20
 //! advertising instances, by steps up to the longest, beside plain Rust over the same lent octets, which walks turn by turn: steps above 60 seconds
 //! have a line with both times and no ratio.
 
+#[cfg(before)]
+mod before;
 mod cases;
 #[path = "../../tests/compare/src/library.rs"]
 mod library;
+mod look_up;
 mod plain;
 mod states;
 mod turns;
@@ -20,7 +25,8 @@ use cases::Case;
 use compare::Target;
 use library::Library;
 use reference::Hub;
-use states::{Kind, KINDS};
+use states::{Kind, Lent, KINDS};
+use std::cell::RefCell;
 use std::hint::black_box;
 use std::time::Instant;
 
@@ -61,11 +67,15 @@ fn instances() -> Data {
     Data { name: "instances".into(), kind: Kind::First, used: 0, state: states::advertising(turns::TIMEOUTS) }
 }
 
-/// The least of so many rounds' nanoseconds for one turn of each: the turns of a round follow each other, so that a slow moment hits all of them.
+/// The least of so many rounds' nanoseconds for one turn of each: the turns of a round follow each other, so that a slow moment hits all of them. Of
+/// several turns one more goes before, so that each finds its octets in the cache.
 fn least_of<const N: usize>(rounds: usize, turns: u32, mut each: [&mut dyn FnMut(); N]) -> [f64; N] {
     let mut best = [f64::INFINITY; N];
     for _ in 0..rounds {
         for (turn, best) in each.iter_mut().zip(&mut best) {
+            if turns > 1 {
+                turn();
+            }
             let start = Instant::now();
             (0..turns).for_each(|_| turn());
             *best = best.min(start.elapsed().as_nanos() as f64 / f64::from(turns));
@@ -120,7 +130,8 @@ fn plain_hub(state: &[u8]) -> Hub {
 }
 
 /// Makes the calls of a case on the library, one after the other.
-fn ours(case: &Case, state: &mut [u8], reply: &mut [u8]) {
+fn ours(case: &Case, lent: &mut Lent) {
+    let (state, reply) = lent.parts();
     for call in &case.calls {
         black_box(Library.call(black_box(state), black_box(call), black_box(&mut reply[..call.room()])));
     }
@@ -140,12 +151,11 @@ fn calls(data: &Data, seen: &mut Seen) {
     let hub = plain_hub(&data.state);
     for case in cases::all(data.kind, &data.state) {
         case.agrees(&data.state, &hub);
-        let (mut lent, mut same) = (data.state.clone(), data.state.clone());
-        let (mut reply, mut none) = (vec![0; 16_014], Vec::new());
+        let lent = RefCell::new(Lent::new(&data.state));
         let (mut tested, mut alone) = (hub.clone(), hub.clone());
         let [a, look, b, c] = least([
-            &mut || ours(&case, &mut lent, &mut reply),
-            &mut || ours(&nothing, &mut same, &mut none),
+            &mut || ours(&case, &mut lent.borrow_mut()),
+            &mut || ours(&nothing, &mut lent.borrow_mut()),
             &mut || theirs(&case, &mut tested, Some(&data.state)),
             &mut || theirs(&case, &mut alone, None),
         ]);
@@ -212,14 +222,15 @@ fn judged_alike(data: &Data) {
     println!("well_formed agrees on every octet of {} changed", data.name);
 }
 
-fn main() {
-    let data = data();
+/// Everything that is timed beside plain Rust.
+fn beside_plain(data: &[Data]) {
     let mut seen = Seen { worst: (0.0, String::new()), full: (f64::INFINITY, 0.0), read: read() };
     println!("one memcmp of a state takes {:.0} ns", seen.read);
     data.iter().for_each(|d| test(d, &mut seen));
     test(&instances(), &mut seen);
     data.iter().for_each(|d| calls(d, &mut seen));
     data.iter().for_each(|d| load(d, &mut seen));
+    look_up::all(&mut seen);
     turns::all(&mut seen);
     data.iter().filter(|d| d.used == 32).for_each(judged_alike);
     judged_alike(&instances());
@@ -230,4 +241,13 @@ fn main() {
         most / least
     );
     println!("worst ratio {:.2}   ({})", seen.worst.0, seen.worst.1);
+}
+
+fn main() {
+    let data = data();
+    match std::env::args().nth(1).as_deref() {
+        #[cfg(before)]
+        Some("--before") => before::all(&data),
+        _ => beside_plain(&data),
+    }
 }

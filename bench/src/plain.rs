@@ -1,5 +1,6 @@
-//! The same test of a state, and the same clock, in plain Rust over the same octets. The test is what a careful engineer would write. The clock walks
-//! the turns of a step one after the other, the plain way to count them: it skips no rounds, so its time grows with the step.
+//! The same test of a state, the same look-up and the same clock, in plain Rust over the same octets. The test is what a careful engineer would write,
+//! the look-up too. The clock walks the turns of a step one after the other, the plain way to count them: it skips no rounds, so its time grows with
+//! the step.
 
 use crate::states::{BLOCK, DATA, DURATIONS, LEFT, ON_AIR, SCAN, SIZES, STATE, TIMEOUTS, WORDS};
 
@@ -140,6 +141,39 @@ fn same(t: usize, r: &[u8], q: &[u8]) -> bool {
         2 => r[..7] == q[..7] && r[8] == q[8],
         _ => r[..7] == q[..7],
     }
+}
+
+/// A key is looked up: the number that a call gives.
+pub fn look_up(s: &[u8], index: usize, table: usize, key: &[u8]) -> u64 {
+    if !well_formed(s) {
+        return 5;
+    }
+    find(s, index, table, key)
+}
+
+/// The same without the test of the state: the slots in use are compared in order, from one of the word to the next.
+pub fn find(s: &[u8], index: usize, table: usize, key: &[u8]) -> u64 {
+    let length = if table == 0 { 16 } else { 7 };
+    if index > 3 || table > 5 || key.len() != length || s[4 + BLOCK * index] == 0 {
+        return 6;
+    }
+    let region = &s[4 + BLOCK * index + WORDS[table]..];
+    let mut word = u32::from_le_bytes(region[..4].try_into().unwrap());
+    let mut walked = 0;
+    while word != 0 {
+        let k = word.trailing_zeros() as usize;
+        walked = k + 1;
+        if region[4 + SIZES[table] * k..][..length] == *key {
+            return told(k, walked);
+        }
+        word &= word - 1;
+    }
+    told(32, walked)
+}
+
+/// Slot and slots walked in the number that a call gives.
+pub fn told(slot: usize, walked: usize) -> u64 {
+    ((slot + 256 * walked) as u64) << 32
 }
 
 /// The clock reads so many seconds: the number that a call gives. Timers are counted down, and turns walked one after the other.

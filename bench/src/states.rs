@@ -24,6 +24,37 @@ pub struct Times {
     pub timeouts: [u16; 5],
 }
 
+/// A state that begins on a page, and a reply buffer behind it: where all lie alike, a difference of a few nanoseconds is none of where they lie.
+pub struct Lent {
+    octets: Vec<u8>,
+    start: usize,
+    length: usize,
+}
+
+impl Lent {
+    const PAGE: usize = 4096;
+    const REPLY: usize = 16_014;
+
+    /// A copy of a state.
+    pub fn new(state: &[u8]) -> Lent {
+        let octets = vec![0; Lent::PAGE + state.len() + Lent::REPLY];
+        let start = octets.as_ptr().align_offset(Lent::PAGE);
+        let mut lent = Lent { octets, start, length: state.len() };
+        lent.state().copy_from_slice(state);
+        lent
+    }
+
+    /// The state and the reply buffer.
+    pub fn parts(&mut self) -> (&mut [u8], &mut [u8]) {
+        self.octets[self.start..].split_at_mut(self.length)
+    }
+
+    /// The state.
+    pub fn state(&mut self) -> &mut [u8] {
+        self.parts().0
+    }
+}
+
 /// The octets that records of a table share, a UUID's or, of the first six, an address's.
 const SAME: [u8; 16] =
     [0xFB, 0x34, 0x9B, 0x5F, 0x80, 0x21, 0x45, 0x80, 0x11, 0x10, 0x33, 0x44, 0x0F, 0x18, 0x55, 0x66];
@@ -107,10 +138,10 @@ fn le_address(numbers: &mut Numbers, out: &mut [u8]) {
     }
 }
 
-/// A list of 32 records of a kind for a table.
-pub fn list(table: usize, kind: Kind) -> Vec<u8> {
+/// So many records of a kind for a table, one behind the other. A longer list begins as a shorter one.
+pub fn list(table: usize, kind: Kind, count: usize) -> Vec<u8> {
     let mut numbers = Numbers(2);
-    let mut list = vec![0; 32 * SIZES[table]];
+    let mut list = vec![0; count * SIZES[table]];
     for (k, out) in list.chunks_exact_mut(SIZES[table]).enumerate() {
         record(table, kind, k, &mut numbers, out);
     }

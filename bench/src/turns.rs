@@ -8,7 +8,7 @@ use reference::Call;
 use std::hint::black_box;
 
 /// The steps that are timed, in seconds; the last is the longest that is taken.
-const STEPS: [u32; 4] = [1, 60, 86_400, 0x7FFF_FFFF];
+pub const STEPS: [u32; 4] = [1, 60, 86_400, 0x7FFF_FFFF];
 /// The longest step that has a ratio. Plain Rust walks turn by turn, so beside a longer one the ratio would only tell how long the step is.
 const COMPARED: u32 = 60;
 /// How many times the shortest step's time the longest may take.
@@ -16,9 +16,11 @@ const LIMIT: f64 = 20.0;
 /// Instances that only take turns, and some whose timeouts end within the longer steps.
 const TURNS: Times = Times { durations: [2, 10, 30, 60, 300], timeouts: [0; 5] };
 pub const TIMEOUTS: Times = Times { timeouts: [1000, 19_999, 40_000, 65_535, 0], ..TURNS };
+/// Both, with their names.
+pub const HUBS: [(&str, Times); 2] = [("turns", TURNS), ("timeouts", TIMEOUTS)];
 
 /// The clock and the advertising parts as they were: all that a step changes on these hubs.
-fn restore(state: &mut [u8], from: &[u8]) {
+pub fn restore(state: &mut [u8], from: &[u8]) {
     state[..4].copy_from_slice(&from[..4]);
     for i in 0..4 {
         let (start, end) = (4 + BLOCK * i + ADVERTISING, 4 + BLOCK * (i + 1));
@@ -93,7 +95,7 @@ fn agrees_at_random(count: usize) {
 /// Every hub and step; the longest step is held to its limit.
 pub fn all(seen: &mut Seen) {
     agrees_at_random(3000);
-    for (name, times) in [("turns", TURNS), ("timeouts", TIMEOUTS)] {
+    for (name, times) in HUBS {
         let took = steps(name, &states::advertising(times), seen);
         let times = took[STEPS.len() - 1] / took[0];
         println!("clock_{}_{name} takes {times:.2} times as long as clock_1_{name}", STEPS[STEPS.len() - 1]);
