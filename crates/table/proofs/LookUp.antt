@@ -157,12 +157,12 @@ module _ (s key : Octets) (at size n : ℕ) where
         let o : upToLast (drop k t) ≡ 0 = rw (u .passed, d, append-nil) (up-to-free (32 - k)) in
         missed-told (begins n key) t k (length-table s at size) (omega (arith, h .first, h .within)) (omega (arith, h .last))
 
-    module _ (wide : u32 s at < 4294967296) (more : left ≡ 0 → ⊥) where
+    module _ (wide : u32 s at < 4294967296) (more : 0 < left) where
       -- the lowest one that is left is that of the next slot in use
       walk-next : (k ≤ trailingZeros 64 left) × (trailingZeros 64 left < 32) × NextUsed s at size k (trailingZeros 64 left)
       walk-next =
           let v : ℕ = u32 s at / 2 ^ k in
-          let p : 0 < v = positive v (λ e. more (h .ones ∙ rw e (zero-mul (2 ^ k)))) in
+          let p : 0 < v = positive v (λ e. let z : left ≡ 0 = h .ones ∙ rw e (zero-mul (2 ^ k)) in omega arith) in
           let q : k + (64 - k) ≡ 64 = omega (arith, h .within) in
           let e : trailingZeros 64 left ≡ k + trailingZeros (64 - k) v = rw (h .ones) (rw q at (zeros-shifted k (64 - k) v)) in
           let f = next-some s at size k (64 - k) (h .within) (omega arith) wide p in
@@ -197,7 +197,7 @@ module _ (s key : Octets) (at size n : ℕ) where
           let o : left ≤ u32 s at = omega (arith, h .ones, split (u32 s at) k) in
           let a : left / 2 ^ (r + 1) ≡ u32 s at / 2 ^ (r + 1) = ap (λ (x : ℕ). x / 2 ^ (r + 1)) (h .ones)
           ∙ ones-above (u32 s at) k (r + 1) (omega (arith, walk-next .0)) in
-          let b : bitAnd left (left - 1) ≡ left / 2 ^ (r + 1) * 2 ^ (r + 1) = rw add-one (lowest-gone 64 left (positive left more) (omega arith)) in
+          let b : bitAnd left (left - 1) ≡ left / 2 ^ (r + 1) * 2 ^ (r + 1) = rw add-one (lowest-gone 64 left more (omega arith)) in
           record {
             within = omega (arith, walk-next .1);
             ones = rw (← a) b;

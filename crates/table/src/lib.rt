@@ -50,7 +50,7 @@ pub fn look_up(s: &[u8], at: usize, size: usize, key: &[u8]) -> LookUp
 {
     let mut left = octets::u32_at(s, at);
     let mut walked: usize = 0;
-    while left != 0 {
+    while 0 < left {
         let slot = u64::trailing_zeros(left) as usize;
         if octets::same_key(key, 0, s, at + (4 + size * slot), key.len()) {
             return LookUp {

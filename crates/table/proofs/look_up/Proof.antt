@@ -5,7 +5,6 @@ use Prim.Native.Nat.{_-_}
 use native.Mathlib.Omega.{arith}
 use lib.ListN.{length}
 use lib.Bits.{and-le-r}
-use Rattle.table.proofs.Walk.{positive}
 use Rattle.table.proofs.LookUp.{Walk, walk-first, walk-hit, walk-last, walk-miss, walk-room}
 use borrow.Author.Needs.{needs}
 use Rattle.table.proofs.look_up.Statement.{statement}
@@ -24,46 +23,48 @@ loop-holds : tie.Need-loop-holds Inv-loop μ-loop
 loop-holds c = walk-first _ _ _ _ _ _ (c .u32-at .ensures .0)
 
 cast-slot : tie.Need-cast-slot Inv-loop μ-loop
-cast-slot c = omega (arith, walk-room _ _ _ _ _ _ _ (c .before .loop .inv) (omega arith) (c .loop-test .taken))
+cast-slot c = omega (arith, walk-room _ _ _ _ _ _ _ (c .before .loop .inv) (omega arith) (omega arith))
 
 mul-same-key : tie.Need-mul-same-key Inv-loop μ-loop
-mul-same-key c = omega (arith, walk-room _ _ _ _ _ _ _ (c .before .loop .inv) (omega arith) (c .loop-test .taken))
+mul-same-key c = omega (arith, walk-room _ _ _ _ _ _ _ (c .before .loop .inv) (omega arith) (omega arith))
 
 add-same-key : tie.Need-add-same-key Inv-loop μ-loop
-add-same-key c = omega (arith, walk-room _ _ _ _ _ _ _ (c .before .loop .inv) (omega arith) (c .loop-test .taken))
+add-same-key c = omega (arith, walk-room _ _ _ _ _ _ _ (c .before .loop .inv) (omega arith) (omega arith))
 
 add-same-key-2 : tie.Need-add-same-key-2 Inv-loop μ-loop
-add-same-key-2 c = omega (arith, walk-room _ _ _ _ _ _ _ (c .before .loop .inv) (omega arith) (c .loop-test .taken))
+add-same-key-2 c = omega (arith, walk-room _ _ _ _ _ _ _ (c .before .loop .inv) (omega arith) (omega arith))
 
 same-key-requires : tie.Need-same-key-requires Inv-loop μ-loop
-same-key-requires c κs = (search needs, omega (arith, walk-room _ _ _ _ _ _ _ (c .before .loop .inv) (omega arith) (c .loop-test .taken)))
+same-key-requires c κs = (search needs, omega (arith, walk-room _ _ _ _ _ _ _ (c .before .loop .inv) (omega arith) (omega arith)))
 
 add-t15 : tie.Need-add-t15 Inv-loop μ-loop
-add-t15 c = omega (arith, walk-room _ _ _ _ _ _ _ (c .before .before .before .loop .inv) (omega arith) (c .before .before .loop-test .taken))
+add-t15 c = omega (arith, walk-room _ _ _ _ _ _ _ (c .before .before .before .loop .inv) (omega arith) (omega arith))
 
 returns : tie.Need-returns Inv-loop μ-loop
 returns c =
-    walk-hit _ _ _ _ _ _ _ (c .before .before .before .loop .inv) (omega arith) (c .before .before .loop-test .taken) (search needs)
+    walk-hit _ _ _ _ _ _ _ (c .before .before .before .loop .inv) (omega arith) (omega arith) (search needs)
     (sym (c .before .same-key .ensures) ∙ c .if1 .taken)
 
 sub-left : tie.Need-sub-left Inv-loop μ-loop
-sub-left c = positive _ (c .before .before .loop-test .taken)
+sub-left c = omega arith
 
 add-walked : tie.Need-add-walked Inv-loop μ-loop
-add-walked c = omega (arith, c .before .before .before .loop .inv .within, walk-room _ _ _ _ _ _ _ (c .before .before .before .loop .inv) (omega arith) (c .before .before .loop-test .taken))
+add-walked c =
+    let l = c .before .before .before .loop .inv in
+    omega (arith, l .within, walk-room _ _ _ _ _ _ _ l (omega arith) (omega arith))
 
 loop-less : tie.Need-loop-less Inv-loop μ-loop
 loop-less c =
     let l = c .before .before .before .loop .left in
-    omega (arith, and-le-r l (l - 1), positive l (c .before .before .loop-test .taken))
+    omega (arith, and-le-r l (l - 1))
 
 loop-again : tie.Need-loop-again Inv-loop μ-loop
 loop-again c =
-    walk-miss _ _ _ _ _ _ _ (c .before .before .before .loop .inv) (omega arith) (c .before .before .loop-test .taken) (search needs)
+    walk-miss _ _ _ _ _ _ _ (c .before .before .before .loop .inv) (omega arith) (omega arith) (search needs)
     (sym (c .before .same-key .ensures) ∙ c .if1 .left)
 
 returns-2 : tie.Need-returns-2 Inv-loop μ-loop
-returns-2 c = walk-last _ _ _ _ _ _ _ (c .before .loop .inv) (c .loop-test .left)
+returns-2 c = walk-last _ _ _ _ _ _ _ (c .before .loop .inv) (omega arith)
 
 pub look-up-spec : {M : Type 1} → statement M
 look-up-spec =
