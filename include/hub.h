@@ -16,12 +16,12 @@
  *
  * After HUB_BAD_STATE the state buffer is not what a call left: something else wrote it, an older library did, nothing was ever loaded, or its length is
  * not HUB_STATE_LEN, which no call mends. The call has done nothing, and every call but hub_load will answer the same. Load the last image that was saved,
- * or the empty one. What an image does not hold is lost: power, discoverable, timers, the clock, advertising instances, commands under way. Reports for
- * those commands are answered 6, so the host tells their clients itself.
+ * or the empty one. What an image does not hold is lost: power, discoverable, timers, the clock, advertising instances, commands under way, and that BR/EDR
+ * is off. Reports for those commands are answered 6, so the host tells their clients itself.
  *
  * After HUB_STARTED the command waits, without a limit of time, for hub_report or hub_unplug of its index; until then Set Powered, Set Discoverable,
- * Set Connectable, Set Low Energy and Set Static Address to that index are refused Busy. A host whose radio driver gives up has to report a failure,
- * any status from 0x01 to 0x14; 0x03 is Failed, 0x08 Timeout.
+ * Set Connectable, Set Low Energy, Set BR/EDR and Set Static Address to that index are refused Busy. A host whose radio driver gives up has to report a
+ * failure, any status from 0x01 to 0x14; 0x03 is Failed, 0x08 Timeout.
  *
  * Clients add advertising instances 1 to 5 (0x003E) and remove them (0x003F). While a controller is powered and has any, one of them is on air, in
  * turns that hub_clock counts; the radio driver asks hub_on_air and sends what that gives. An instance whose whole turn lies between two clock readings
@@ -36,6 +36,12 @@
  * added or unpaired need not be one. A host that draws a static address at random tests it first, or draws again when it is refused. An image with any
  * other address in these places is answered HUB_BAD_IMAGE and a state HUB_BAD_STATE, as those of an older library may be. Nothing in them is mended: keep
  * the file, and start from the empty image.
+ *
+ * Set BR/EDR (0x002A) turns the BR/EDR of a controller that has both transports off and on; plug and load turn it on. Off is taken while power is off, and
+ * turns discoverable off; on is taken with no static address; both want Low Energy on. With BR/EDR off or not supported, discoverable is not turned on and
+ * Low Energy not off, and a static address is in use in place of a public one (bit 15 of Current_Settings). Link keys go by what is supported, also then. An
+ * image cannot say that BR/EDR is off: as long as it is off at any controller that supports it, hub_save answers HUB_NOT_IN_IMAGE and writes nothing. To save
+ * nonetheless: power off, static address zero, BR/EDR on, save, BR/EDR off, the static address again; and the last two once more after hub_load.
  *
  * A refusal tells a status and no more. hub_why says in words which check fails first and where in the packet: lend it the same packet and the state as it
  * was before the command, or right after it, since a refused command leaves the state alone. docs/WHY.md has every wording.
@@ -56,7 +62,7 @@ extern "C" {
 #endif
 
 /* The length of the state buffer; any other length is answered HUB_BAD_STATE. */
-#define HUB_STATE_LEN 17488u
+#define HUB_STATE_LEN 17492u
 /* The shortest reply buffer that every call but hub_save takes; hub_why has a text buffer in its place. */
 #define HUB_REPLY_MIN 1024u
 /* The shortest reply buffer that hub_save takes, and the length of the longest image. */
@@ -73,6 +79,7 @@ extern "C" {
 #define HUB_BAD_STATE 5u    /* the lent state is not well formed */
 #define HUB_BAD_ARGUMENT 6u /* a wrong argument, of hub_plug, hub_unplug, hub_report, hub_clock, hub_name, hub_on_air or hub_look_up */
 #define HUB_BAD_IMAGE 7u    /* hub_load does not take the image */
+#define HUB_NOT_IN_IMAGE 8u /* hub_save: a controller that supports BR/EDR has it off, which no image can say */
 
 /* The tables of a controller, as hub_look_up numbers them. */
 #define HUB_UUIDS 0u
@@ -183,7 +190,10 @@ uint64_t hub_plug(uint8_t *state, size_t state_len, uint64_t index, const uint8_
  */
 uint64_t hub_unplug(uint8_t *state, size_t state_len, uint64_t index, uint8_t *reply, size_t reply_len);
 
-/* Writes the image of the state to the reply buffer. Answers 0, 4 or 5. Write it to a new file and rename that over the old one. */
+/*
+ * Writes the image of the state to the reply buffer. Answers 0, or 8 where a controller that supports BR/EDR has it off, 4 or 5. Write it to a new file and
+ * rename that over the old one.
+ */
 uint64_t hub_save(const uint8_t *state, size_t state_len, uint8_t *reply, size_t reply_len);
 
 /*

@@ -104,7 +104,7 @@ fn counted(before: Settings, step: u32) -> Settings
     let host = before.host;
     let timer = host.timer;
     let left = timer::counted_down(timer, step);
-    rules::with_timer(before, left)
+    rules::effects::with_timer(before, left)
 }
 
 // New Settings at the place, if the timer of the settings before ends with this step. Returns the place behind.

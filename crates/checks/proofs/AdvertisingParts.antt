@@ -306,18 +306,18 @@ module _ (l w : Bool) (s : Octets) (at : ℕ) (b : bytes s ≡ true) (h : at + 3
 -- 5. In a block -------------------------------------------------------------------------------------------------------------------------------
 
 -- the advertising of an index, behind its tables
-pub advertising-at : (s : Octets) (i : ℕ) → controllerOf s i .host .advertising ≡ advertisingBack (part s (base i + 4028) 343)
+pub advertising-at : (s : Octets) (i : ℕ) → controllerOf s i .host .advertising ≡ advertisingBack (part s (base i + 4029) 343)
 unfolding controllerOf controllerBack
 advertising-at s i =
-    let d : drop 6 (part s (base i) Lengths.block) ≡ part s (base i + 6) 4365 = drop-part s (base i) 6 4365 in
-    let e : drop 4022 (part s (base i + 6) 4365) ≡ part s (base i + 6 + 4022) 343 = drop-part s (base i + 6) 4022 343 in
-    let f : base i + 6 + 4022 ≡ base i + 4028 = omega arith in
+    let d : drop 6 (part s (base i) Lengths.block) ≡ part s (base i + 6) 4366 = drop-part s (base i) 6 4366 in
+    let e : drop 4023 (part s (base i + 6) 4366) ≡ part s (base i + 6 + 4023) 343 = drop-part s (base i + 6) 4023 343 in
+    let f : base i + 6 + 4023 ≡ base i + 4029 = omega arith in
     rw (d, e, f)
 
 -- its schedule lies first
 pub schedule-first : (s : Octets) (i b : ℕ) (t : Schedule) → b ≡ base i → t ≡ controllerOf s i .host .advertising .schedule
-    → t ≡ scheduleBack (drop (b + 4028) s)
+    → t ≡ scheduleBack (drop (b + 4029) s)
 unfolding advertisingBack
 schedule-first s i b t e f =
-    f ∙ ap (λ (a : Advertising). a .schedule) (advertising-at s i) ∙ schedule-cut s (base i + 4028) 343 (omega arith)
-    ∙ ap (λ (k : ℕ). scheduleBack (drop (k + 4028) s)) (sym e)
+    f ∙ ap (λ (a : Advertising). a .schedule) (advertising-at s i) ∙ schedule-cut s (base i + 4029) 343 (omega arith)
+    ∙ ap (λ (k : ℕ). scheduleBack (drop (k + 4029) s)) (sym e)

@@ -25,7 +25,7 @@ use Rattle.model.specs.Image.{nameOk, radioOk}
 use Rattle.model.specs.Layout.{slotsBack}
 use Rattle.model.specs.Tables.{ruleAt}
 use Rattle.model.specs.Proof.Tests.{and-true, or-true, and-off}
-use Rattle.model.specs.Rules.{setConnectable, setDiscoverable, setLowEnergy, setPowered}
+use Rattle.model.specs.Rules.{setBredr, setConnectable, setDiscoverable, setLowEnergy, setPowered}
 use Rattle.layout.specs.Places.{base, controllerOf, placeOf, presentAt, sizes}
 use Rattle.layout.proofs.Reading.{name-at}
 use Rattle.octets.specs.Parts.{part, placeAt}
@@ -44,7 +44,7 @@ use Rattle.records.specs.Slots.{freeZero, recordsAt}
 use Rattle.records.proofs.Slots.{no-slots}
 use Rattle.table.specs.Slots.{tableAt}
 use Rattle.checks.specs.Open.{openOctetsOk, startedOctetsOk}
-use Rattle.checks.proofs.Open.{fine-connectable, fine-discoverable, fine-low-energy, fine-none, fine-other, fine-powered, fine-some}
+use Rattle.checks.proofs.Open.{fine-bredr, fine-connectable, fine-discoverable, fine-low-energy, fine-none, fine-other, fine-powered, fine-some}
 use Rattle.layout.proofs.Tables.{rules-six}
 
 -- a test of the code, as the model's test
@@ -155,21 +155,35 @@ module _ (x : RadioSettings) (s : Octets) (at code : ℕ) (e : code ≡ u16 s at
         rw (f, first-lent) (sym (fine-low-energy x (part s (at + 2) 3) three code q
         ∙ rw (rest, z) (and-on (isStarted (decision setLowEnergy x (take 1 (part s (at + 2) 3)))))) ∙ fine)
 
+    -- the same, of Set BR/EDR
+    pub opens-bredr : code ≡ Codes.setBredr → (d : Decision) → d ≡ decision setBredr x (take (at + 3 - (at + 2)) (drop (at + 2) s))
+        → isStarted d ≡ openOctetsOk x (u16 s at) (part s (at + 2) 3)
+    opens-bredr q d f =
+        rw (f, first-lent) (sym (fine-bredr x (part s (at + 2) 3) three code q
+        ∙ rw (rest, z) (and-on (isStarted (decision setBredr x (take 1 (part s (at + 2) 3)))))) ∙ fine)
+
   -- no other command waits
   pub opens-other : (code ≡ Codes.setDiscoverable → ⊥) → (code ≡ Codes.setPowered → ⊥) → (code ≡ Codes.setConnectable → ⊥)
-      → (code ≡ Codes.setLowEnergy → ⊥) → false ≡ openOctetsOk x (u16 s at) (part s (at + 2) 3)
-  opens-other a b c d = sym (fine-other x (part s (at + 2) 3) code b a c d) ∙ fine
+      → (code ≡ Codes.setLowEnergy → ⊥) → (code ≡ Codes.setBredr → ⊥) → false ≡ openOctetsOk x (u16 s at) (part s (at + 2) 3)
+  opens-other a b c d e = sym (fine-other x (part s (at + 2) 3) code b a c d e) ∙ fine
 
   -- and none of one parameter octet has others behind it
   pub opens-more : (code ≡ Codes.setDiscoverable → ⊥) → allZero (part s (at + 3) 2) ≡ false → false ≡ openOctetsOk x (u16 s at) (part s (at + 2) 3)
   opens-more a z = five (eqb code Codes.setPowered) refl
     where
+      forty-two : (y : Bool) → eqb code Codes.setBredr ≡ y → (code ≡ Codes.setPowered → ⊥) → (code ≡ Codes.setConnectable → ⊥)
+          → (code ≡ Codes.setLowEnergy → ⊥) → false ≡ openOctetsOk x (u16 s at) (part s (at + 2) 3)
+      forty-two true q b c d =
+          sym (fine-bredr x (part s (at + 2) 3) three code (eqb-true code 42 q)
+          ∙ rw (rest, z) (and-off (isStarted (decision setBredr x (take 1 (part s (at + 2) 3)))))) ∙ fine
+      forty-two false q b c d = opens-other a b c d (eqb-false code 42 q)
+
       thirteen : (y : Bool) → eqb code Codes.setLowEnergy ≡ y → (code ≡ Codes.setPowered → ⊥) → (code ≡ Codes.setConnectable → ⊥)
           → false ≡ openOctetsOk x (u16 s at) (part s (at + 2) 3)
       thirteen true q b c =
           sym (fine-low-energy x (part s (at + 2) 3) three code (eqb-true code 13 q)
           ∙ rw (rest, z) (and-off (isStarted (decision setLowEnergy x (take 1 (part s (at + 2) 3)))))) ∙ fine
-      thirteen false q b c = opens-other a b c (eqb-false code 13 q)
+      thirteen false q b c = forty-two (eqb code Codes.setBredr) refl b c (eqb-false code 13 q)
 
       seven : (y : Bool) → eqb code Codes.setConnectable ≡ y → (code ≡ Codes.setPowered → ⊥) → false ≡ openOctetsOk x (u16 s at) (part s (at + 2) 3)
       seven true q b =
@@ -281,8 +295,8 @@ pub fine-by : (s : Octets) (i b : ℕ) (m : Settings) → b ≡ base i → m ≡
     && (nameOk (controllerOf s i .host .name)
     && (flagsOctetsOk s b
     && (openOctetsOk (m .radio) (u16 s (b + 1)) (part s (b + 1 + 2) 3)
-    && (tablesOctetsOk (m .radio .hardware) tableRules s (b + 292)
-    && advertisingOctetsOk (m .radio .lowEnergy) (m .radio .powered) s (b + 4028))))))
+    && (tablesOctetsOk (m .radio .hardware) tableRules s (b + 293)
+    && advertisingOctetsOk (m .radio .lowEnergy) (m .radio .powered) s (b + 4029))))))
 unfolding controllerOctetsOk settingsOf
 fine-by s i b m e f = rw (e, f)
 

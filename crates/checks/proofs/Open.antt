@@ -14,7 +14,7 @@ use Rattle.model.specs.Codes as Codes
 use Rattle.model.specs.declared.RadioSettings.{RadioSettings}
 use Rattle.model.specs.Octets.{Octets, allZero, bytes, le16, same, u16}
 use Rattle.model.specs.State.{Controller, OpenCommand}
-use Rattle.model.specs.Rules.{RadioRule, radio, setConnectable, setDiscoverable, setLowEnergy, setPowered, setStaticAddress}
+use Rattle.model.specs.Rules.{RadioRule, radio, setBredr, setConnectable, setDiscoverable, setLowEnergy, setPowered, setStaticAddress}
 use Rattle.model.specs.Commands.{Row, find, rows, rule}
 use Rattle.model.specs.Hub.{starts, startsBy}
 use Rattle.model.specs.WellFormed.{openOk}
@@ -156,7 +156,7 @@ module _ (x : RadioSettings) (ps : Octets) (l : length ps ≡ 3) where
   first : length (take 1 ps) ≡ 1
   first = simp length-take (omega arith)
 
-  -- Set Powered, Set Connectable and Set Low Energy have one parameter octet
+  -- Set Powered, Set Connectable, Set Low Energy and Set BR/EDR have one parameter octet
   pub fine-powered : (code : ℕ) → code ≡ Codes.setPowered → startedOctetsOk x code ps ≡ isStarted (decision setPowered x (take 1 ps)) && allZero (drop 1 ps)
   unfolding rule find rows setPowered
   fine-powered code e = rw e (radio-is x Codes.setPowered ps setPowered refl ∙ rw (starts-is setPowered x (take 1 ps) first))
@@ -172,6 +172,11 @@ module _ (x : RadioSettings) (ps : Octets) (l : length ps ≡ 3) where
       && allZero (drop 1 ps)
   unfolding rule find rows setLowEnergy
   fine-low-energy code e = rw e (radio-is x Codes.setLowEnergy ps setLowEnergy refl ∙ rw (starts-is setLowEnergy x (take 1 ps) first))
+
+  -- the same, of Set BR/EDR
+  pub fine-bredr : (code : ℕ) → code ≡ Codes.setBredr → startedOctetsOk x code ps ≡ isStarted (decision setBredr x (take 1 ps)) && allZero (drop 1 ps)
+  unfolding rule find rows setBredr
+  fine-bredr code e = rw e (radio-is x Codes.setBredr ps setBredr refl ∙ rw (starts-is setBredr x (take 1 ps) first))
 
   -- Set Discoverable has three
   pub fine-discoverable : (code : ℕ) → code ≡ Codes.setDiscoverable → startedOctetsOk x code ps ≡ isStarted (decision setDiscoverable x ps)
@@ -201,11 +206,11 @@ static-acts : (x : RadioSettings) (ps : Octets) → startsBy x ps (some (radio s
 unfolding startsBy setStaticAddress
 static-acts x ps = rw (and-off, and-off, and-off)
 
--- so it is for every code but the four of the commands that can wait
+-- so it is for every code but the five of the commands that can wait
 quiet : (code : ℕ) → (code ≡ Codes.setPowered → ⊥) → (code ≡ Codes.setDiscoverable → ⊥) → (code ≡ Codes.setConnectable → ⊥)
-    → (code ≡ Codes.setLowEnergy → ⊥) → Quiet code rows
+    → (code ≡ Codes.setLowEnergy → ⊥) → (code ≡ Codes.setBredr → ⊥) → Quiet code rows
 unfolding Quiet rows startsBy
-quiet code n5 n6 n7 n13 = (
+quiet code n5 n6 n7 n13 n42 = (
   inr (λ x ps. refl),
   (
     inr (λ x ps. refl),
@@ -246,14 +251,17 @@ quiet code n5 n6 n7 n13 = (
                                 (
                                   inr (λ x ps. refl),
                                   (
-                                    inr static-acts,
+                                    inl (ne-eqb 42 code (λ e. n42 (sym e))),
                                     (
-                                      inr (λ x ps. refl),
+                                      inr static-acts,
                                       (
                                         inr (λ x ps. refl),
                                         (
                                           inr (λ x ps. refl),
-                                          (inr (λ x ps. refl), (inr (λ x ps. refl), tt)),
+                                          (
+                                            inr (λ x ps. refl),
+                                            (inr (λ x ps. refl), (inr (λ x ps. refl), tt)),
+                                          ),
                                         ),
                                       ),
                                     ),
@@ -278,6 +286,7 @@ quiet code n5 n6 n7 n13 = (
 
 -- an open command of any other code is never fine
 pub fine-other : (x : RadioSettings) (ps : Octets) (code : ℕ) → (code ≡ Codes.setPowered → ⊥) → (code ≡ Codes.setDiscoverable → ⊥)
-    → (code ≡ Codes.setConnectable → ⊥) → (code ≡ Codes.setLowEnergy → ⊥) → startedOctetsOk x code ps ≡ false
+    → (code ≡ Codes.setConnectable → ⊥) → (code ≡ Codes.setLowEnergy → ⊥) → (code ≡ Codes.setBredr → ⊥)
+    → startedOctetsOk x code ps ≡ false
 unfolding startedOctetsOk rule
-fine-other x ps code n5 n6 n7 n13 = rw (quiet-found x (take (sizeOf (rule code)) ps) code rows (quiet code n5 n6 n7 n13))
+fine-other x ps code n5 n6 n7 n13 n42 = rw (quiet-found x (take (sizeOf (rule code)) ps) code rows (quiet code n5 n6 n7 n13 n42))

@@ -67,15 +67,15 @@ absent-block s i h n =
 
 -- a present block in its parts
 cut-block : (s : Octets) (b : ℕ) → b < length s → getD s b 0 ≡ 1
-    → part s b Lengths.block ≡ 1 ∷ (part s (b + 1) 5 ++ (part s (b + 6) 13 ++ (part s (b + 19) 13 ++ (part s (b + 32) 260
-    ++ (part s (b + 292) 3736 ++ part s (b + 4028) 343)))))
+    → part s b Lengths.block ≡ 1 ∷ (part s (b + 1) 5 ++ (part s (b + 6) 13 ++ (part s (b + 19) 14 ++ (part s (b + 33) 260
+    ++ (part s (b + 293) 3736 ++ part s (b + 4029) 343)))))
 cut-block s b h e = rw (
-  part-cut s b 1 4370 (b + 1) Lengths.block refl refl,
-  part-cut s (b + 1) 5 4365 (b + 6) 4370 (omega arith) refl,
-  part-cut s (b + 6) 13 4352 (b + 19) 4365 (omega arith) refl,
-  part-cut s (b + 19) 13 4339 (b + 32) 4352 (omega arith) refl,
-  part-cut s (b + 32) 260 4079 (b + 292) 4339 (omega arith) refl,
-  part-cut s (b + 292) 3736 343 (b + 4028) 4079 (omega arith) refl,
+  part-cut s b 1 4371 (b + 1) Lengths.block refl refl,
+  part-cut s (b + 1) 5 4366 (b + 6) 4371 (omega arith) refl,
+  part-cut s (b + 6) 13 4353 (b + 19) 4366 (omega arith) refl,
+  part-cut s (b + 19) 14 4339 (b + 33) 4353 (omega arith) refl,
+  part-cut s (b + 33) 260 4079 (b + 293) 4339 (omega arith) refl,
+  part-cut s (b + 293) 3736 343 (b + 4029) 4079 (omega arith) refl,
   one-octet s b h,
   e,
 )
@@ -95,9 +95,9 @@ pieces-same a b c d e f p q r s t u g h i j k =
     )
 
 -- the three octets for parameters, cut from all that follow in the block
-take-three : (s : Octets) (at : ℕ) → take 3 (part s at 4368) ≡ part s at 3
+take-three : (s : Octets) (at : ℕ) → take 3 (part s at 4369) ≡ part s at 3
 unfolding part
-take-three s at = take-take 3 4368 (drop at s) (omega arith)
+take-three s at = take-take 3 4369 (drop at s) (omega arith)
 
 -- the tests of a block in the order in which they are made
 gather : (r n t z v o c f g h : Bool)
@@ -130,40 +130,40 @@ gather r n t z v o c f g h = one-test _ _ down up
         let p = and-true v _ (l .1) in
         both (both (a .0) (both (d .0) (both (m .0) (both (b .0) (p .0))))) (both (k .0) (both (k .1) (both (i .0) (both (m .1) (p .1)))))
 
--- the name lies 32 octets into a block
-pub place-name : (i : ℕ) → placeOf i 4 ≡ base i + 32
+-- the name lies 33 octets into a block
+pub place-name : (i : ℕ) → placeOf i 4 ≡ base i + 33
 unfolding placeOf placeAt sizes
 place-name i = refl
 
 module _ (s : Octets) (i : ℕ) (w : bytes s ≡ true) (h : base i + Lengths.block ≤ length s) where
   -- the tables, one after the other
-  tables-here : controllerOf s i .host .tables ≡ tablesBack tableRules (part s (base i + 292) 3736)
+  tables-here : controllerOf s i .host .tables ≡ tablesBack tableRules (part s (base i + 293) 3736)
   unfolding controllerOf controllerBack
   tables-here =
-      let d : drop 6 (blockAt s i) ≡ part s (base i + 6) 4365 = drop-part s (base i) 6 4365 in
-      let e : drop 286 (part s (base i + 6) 4365) ≡ part s (base i + 6 + 286) 4079 = drop-part s (base i + 6) 286 4079 in
-      let f : base i + 6 + 286 ≡ base i + 292 = omega arith in
-      rw (d, e, f) (rw total-six at (tables-cut tableRules s (base i + 292) 343))
+      let d : drop 6 (blockAt s i) ≡ part s (base i + 6) 4366 = drop-part s (base i) 6 4366 in
+      let e : drop 287 (part s (base i + 6) 4366) ≡ part s (base i + 6 + 287) 4079 = drop-part s (base i + 6) 287 4079 in
+      let f : base i + 6 + 287 ≡ base i + 293 = omega arith in
+      rw (d, e, f) (rw total-six at (tables-cut tableRules s (base i + 293) 343))
 
   -- they are well formed, and their octets the one encoding of them
   tables-fine : tablesOk (controllerOf s i .radio .hardware) tableRules (controllerOf s i .host .tables)
-      && same (part s (base i + 292) 3736) (regions tableRules (controllerOf s i .host .tables))
-      ≡ tablesOctetsOk (controllerOf s i .radio .hardware) tableRules s (base i + 292)
-  tables-fine = rw tables-here (rw total-six at (tables-are (controllerOf s i .radio .hardware) tableRules s (base i + 292) w (rw total-six (omega arith))))
+      && same (part s (base i + 293) 3736) (regions tableRules (controllerOf s i .host .tables))
+      ≡ tablesOctetsOk (controllerOf s i .radio .hardware) tableRules s (base i + 293)
+  tables-fine = rw tables-here (rw total-six at (tables-are (controllerOf s i .radio .hardware) tableRules s (base i + 293) w (rw total-six (omega arith))))
 
   -- as they are laid out, they take 3,736 octets
   tables-long : length (regions tableRules (controllerOf s i .host .tables)) ≡ 3736
-  tables-long = rw tables-here (rw total-six at (length-regions tableRules s (base i + 292) (rw total-six (omega arith))))
+  tables-long = rw tables-here (rw total-six at (length-regions tableRules s (base i + 293) (rw total-six (omega arith))))
 
   -- advertising is well formed, and its octets the one encoding of it
   advertising-fine : advertisingOk (controllerOf s i .radio .lowEnergy) (controllerOf s i .radio .powered) (controllerOf s i .host .advertising)
-      && same (part s (base i + 4028) 343) (advertisingPart (controllerOf s i .host .advertising))
-      ≡ advertisingOctetsOk (controllerOf s i .radio .lowEnergy) (controllerOf s i .radio .powered) s (base i + 4028)
+      && same (part s (base i + 4029) 343) (advertisingPart (controllerOf s i .host .advertising))
+      ≡ advertisingOctetsOk (controllerOf s i .radio .lowEnergy) (controllerOf s i .radio .powered) s (base i + 4029)
   advertising-fine = rw (advertising-at s i)
-      (advertising-is (controllerOf s i .radio .lowEnergy) (controllerOf s i .radio .powered) s (base i + 4028) w (omega arith))
+      (advertising-is (controllerOf s i .radio .lowEnergy) (controllerOf s i .radio .powered) s (base i + 4029) w (omega arith))
 
   -- what lies there is the controller's name
-  name-here : part s (base i + 32) 260 ≡ controllerOf s i .host .name
+  name-here : part s (base i + 33) 260 ≡ controllerOf s i .host .name
   name-here = rw (← place-name i) (name-at s i)
 
   -- numbers and octets are as wide as their types
@@ -176,19 +176,19 @@ module _ (s : Octets) (i : ℕ) (w : bytes s ≡ true) (h : base i + Lengths.blo
         version = rw (← e) (lt-ltb _ _ (byte-at s (base i + 6) w));
         manufacturer = rw (← e) (lt-ltb _ _ (u16-lt s (base i + 7) w));
         publicAddress = rw (← e) (part-bytes s (base i + 13) 6 w);
-        staticAddress = rw (ap (λ (x : Settings). x .radio .staticAddress) (sym m)) (part-bytes s (base i + 26) 6 w);
-        name = rw (← name-here) (part-bytes s (base i + 32) 260 w);
-        seconds = rw (ap (λ (x : Settings). x .host .timer .seconds) (sym m)) (lt-ltb _ _ (u16-lt s (base i + 24) w));
+        staticAddress = rw (ap (λ (x : Settings). x .radio .staticAddress) (sym m)) (part-bytes s (base i + 27) 6 w);
+        name = rw (← name-here) (part-bytes s (base i + 33) 260 w);
+        seconds = rw (ap (λ (x : Settings). x .host .timer .seconds) (sym m)) (lt-ltb _ _ (u16-lt s (base i + 25) w));
       })
 
   -- the static address has six octets, as it is cut from the block
   static-long : eqb (length (controllerOf s i .radio .staticAddress)) 6 ≡ true
   unfolding settingsFrom settingsOf
-  static-long = rw (ap (λ (x : Settings). x .radio .staticAddress) (sym (settings-at s i))) (eq-eqb _ _ (length-part s (base i + 26) 6 (omega arith)))
+  static-long = rw (ap (λ (x : Settings). x .radio .staticAddress) (sym (settings-at s i))) (eq-eqb _ _ (length-part s (base i + 27) 6 (omega arith)))
 
   -- and the name 260
   name-long : eqb (length (controllerOf s i .host .name)) 260 ≡ true
-  name-long = rw (← name-here) (eq-eqb _ _ (length-part s (base i + 32) 260 (omega arith)))
+  name-long = rw (← name-here) (eq-eqb _ _ (length-part s (base i + 33) 260 (omega arith)))
 
   -- so what is left of the test of a controller
   controller-is : controllerOk (controllerOf s i)
@@ -204,8 +204,8 @@ module _ (s : Octets) (i : ℕ) (w : bytes s ≡ true) (h : base i + Lengths.blo
   block-same : (o : Option OpenCommand) → getD s (base i) 0 ≡ 1
       → same (blockAt s i) (block (some (controllerOf s i)) o)
       ≡ same (part s (base i + 1) 5) (openPart o) && (flagsOctetsOk s (base i)
-      && (same (part s (base i + 292) 3736) (regions tableRules (controllerOf s i .host .tables))
-      && same (part s (base i + 4028) 343) (advertisingPart (controllerOf s i .host .advertising))))
+      && (same (part s (base i + 293) 3736) (regions tableRules (controllerOf s i .host .tables))
+      && same (part s (base i + 4029) 343) (advertisingPart (controllerOf s i .host .advertising))))
   unfolding block controllerPart
   block-same o e =
       let b : ℕ = base i in
@@ -213,26 +213,26 @@ module _ (s : Octets) (i : ℕ) (w : bytes s ≡ true) (h : base i + Lengths.blo
       let n : Octets = c .host .name in
       let f : Octets = hardwarePart (c .radio .hardware) in
       let hw : part s (b + 6) 13 ≡ f = hardware-same s b w (omega arith) ∙ ap hardwarePart (hardware-at s i) in
-      let st : same (part s (b + 19) 13) (settingsPart (settingsOf c)) ≡ flagsOctetsOk s b = ap
-      (λ (m : Settings). same (part s (b + 19) 13) (settingsPart m)) (sym (settings-at s i)) ∙ settings-same s b (c .radio .hardware) w (omega arith) in
-      let sl : length (settingsPart (settingsOf c)) ≡ 13 = ap (λ (m : Settings). length (settingsPart m)) (sym (settings-at s i))
+      let st : same (part s (b + 19) 14) (settingsPart (settingsOf c)) ≡ flagsOctetsOk s b = ap
+      (λ (m : Settings). same (part s (b + 19) 14) (settingsPart m)) (sym (settings-at s i)) ∙ settings-same s b (c .radio .hardware) w (omega arith) in
+      let sl : length (settingsPart (settingsOf c)) ≡ 14 = ap (λ (m : Settings). length (settingsPart m)) (sym (settings-at s i))
       ∙ settings-long s b (c .radio .hardware) (omega arith) in
       rw (cut-block s b (omega arith) e)
-      (pieces-same (part s (b + 1) 5) (part s (b + 6) 13) (part s (b + 19) 13) (part s (b + 32) 260) (part s (b + 292) 3736) (part s (b + 4028) 343)
+      (pieces-same (part s (b + 1) 5) (part s (b + 6) 13) (part s (b + 19) 14) (part s (b + 33) 260) (part s (b + 293) 3736) (part s (b + 4029) 343)
       (openPart o) f (settingsPart (settingsOf c)) n (regions tableRules (c .host .tables)) (advertisingPart (c .host .advertising))
-      (length-part s (b + 1) 5 (omega arith) ∙ sym (length-open o)) (ap length hw) (length-part s (b + 19) 13 (omega arith) ∙ sym sl) (ap length name-here)
-      (length-part s (b + 292) 3736 (omega arith) ∙ sym tables-long)
+      (length-part s (b + 1) 5 (omega arith) ∙ sym (length-open o)) (ap length hw) (length-part s (b + 19) 14 (omega arith) ∙ sym sl) (ap length name-here)
+      (length-part s (b + 293) 3736 (omega arith) ∙ sym tables-long)
       ∙ rw (hw, same-refl f, st, name-here, same-refl n))
 
   -- what is under way there
-  open-here : getD s (base i) 0 ≡ 1 → openIn (blockAt s i) ≡ openWith (u16 s (base i + 1)) (part s (base i + 1 + 2) 4368)
+  open-here : getD s (base i) 0 ≡ 1 → openIn (blockAt s i) ≡ openWith (u16 s (base i + 1)) (part s (base i + 1 + 2) 4369)
   unfolding openBack
   open-here e =
       let b : ℕ = base i in
       let p : eqb (getD (blockAt s i) 0 0) 1 ≡ true = rw (first-octet s i) (eq-eqb (getD s b 0) 1 e) in
-      let d : drop 1 (blockAt s i) ≡ part s (b + 1) 4370 = drop-part s b 1 4370 in
-      let f : drop 2 (part s (b + 1) 4370) ≡ part s (b + 1 + 2) 4368 = drop-part s (b + 1) 2 4368 in
-      let g : u16 (part s (b + 1) 4370) 0 ≡ u16 s (b + 1) = u16-part s (b + 1) 4370 0 (omega arith) ∙ rw add-zero in
+      let d : drop 1 (blockAt s i) ≡ part s (b + 1) 4371 = drop-part s b 1 4371 in
+      let f : drop 2 (part s (b + 1) 4371) ≡ part s (b + 1 + 2) 4369 = drop-part s (b + 1) 2 4369 in
+      let g : u16 (part s (b + 1) 4371) 0 ≡ u16 s (b + 1) = u16-part s (b + 1) 4371 0 (omega arith) ∙ rw add-zero in
       open-some (blockAt s i) p ∙ rw (d, f, g)
 
   -- the controller of a present block is the one at its index
@@ -241,22 +241,22 @@ module _ (s : Octets) (i : ℕ) (w : bytes s ≡ true) (h : base i + Lengths.blo
   controller-here e = controller-some (blockAt s i) (rw (first-octet s i) (eq-eqb (getD s (base i) 0) 1 e))
 
   -- and it would be started, or all is zero
-  open-fine : (c : Controller) → openOk (some c) (openWith (u16 s (base i + 1)) (part s (base i + 1 + 2) 4368))
-      && same (part s (base i + 1) 5) (openPart (openWith (u16 s (base i + 1)) (part s (base i + 1 + 2) 4368)))
+  open-fine : (c : Controller) → openOk (some c) (openWith (u16 s (base i + 1)) (part s (base i + 1 + 2) 4369))
+      && same (part s (base i + 1) 5) (openPart (openWith (u16 s (base i + 1)) (part s (base i + 1 + 2) 4369)))
       ≡ openOctetsOk (c .radio) (u16 s (base i + 1)) (part s (base i + 1 + 2) 3)
-  open-fine c = open-is c s (base i + 1) (part s (base i + 1 + 2) 4368) w (part-bytes s (base i + 1 + 2) 4368 w) (omega arith) (take-three s (base i + 1 + 2))
+  open-fine c = open-is c s (base i + 1) (part s (base i + 1 + 2) 4369) w (part-bytes s (base i + 1 + 2) 4369 w) (omega arith) (take-three s (base i + 1 + 2))
 
   -- the test of a present block
   pub present-block : getD s (base i) 0 ≡ 1 → controllerOctetsOk s i ≡ blockOk (blockAt s i)
   unfolding blockOk slotOk controllerOctetsOk
   present-block e =
       let c : Controller = controllerOf s i in
-      let o : Option OpenCommand = openWith (u16 s (base i + 1)) (part s (base i + 1 + 2) 4368) in
+      let o : Option OpenCommand = openWith (u16 s (base i + 1)) (part s (base i + 1 + 2) 4369) in
       sym (rw (controller-here e, open-here e, controller-is, block-same o e)
       (gather (radioOk (c .radio)) (nameOk (c .host .name)) (tablesOk (c .radio .hardware) tableRules (c .host .tables)) (settingsOk (settingsOf c))
       (advertisingOk (c .radio .lowEnergy) (c .radio .powered) (c .host .advertising)) (openOk (some c) o) (same (part s (base i + 1) 5) (openPart o))
-      (flagsOctetsOk s (base i)) (same (part s (base i + 292) 3736) (regions tableRules (c .host .tables)))
-      (same (part s (base i + 4028) 343) (advertisingPart (c .host .advertising)))
+      (flagsOctetsOk s (base i)) (same (part s (base i + 293) 3736) (regions tableRules (c .host .tables)))
+      (same (part s (base i + 4029) 343) (advertisingPart (c .host .advertising)))
       ∙ rw (open-fine c, tables-fine, advertising-fine)))
 
 -- 3. The whole state -----------------------------------------------------------------------------------------------------------------------------
@@ -282,7 +282,7 @@ pub state-is : (s : Octets) → bytes s ≡ true
     → stateOk s ≡ eqb (length s) Lengths.state && (blockOk (blockAt s 0) && (blockOk (blockAt s 1) && (blockOk (blockAt s 2) && blockOk (blockAt s 3))))
 unfolding part
 state-is s w =
-    let a : drop Lengths.block (drop 4 s) ≡ drop 4375 s = drop-drop Lengths.block 4 s in
-    let b : drop Lengths.block (drop 4375 s) ≡ drop 8746 s = drop-drop Lengths.block 4375 s in
-    let c : drop Lengths.block (drop 8746 s) ≡ drop 13117 s = drop-drop Lengths.block 8746 s in
-    state-blocks s w ∙ rw (four-blocks (drop 4 s) (drop 4375 s) (drop 8746 s) (drop 13117 s) a b c)
+    let a : drop Lengths.block (drop 4 s) ≡ drop 4376 s = drop-drop Lengths.block 4 s in
+    let b : drop Lengths.block (drop 4376 s) ≡ drop 8748 s = drop-drop Lengths.block 4376 s in
+    let c : drop Lengths.block (drop 8748 s) ≡ drop 13120 s = drop-drop Lengths.block 8748 s in
+    state-blocks s w ∙ rw (four-blocks (drop 4 s) (drop 4376 s) (drop 8748 s) (drop 13120 s) a b c)

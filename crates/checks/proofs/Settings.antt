@@ -28,21 +28,23 @@ pub one-octet : (s : Octets) (a : ℕ) → a < length s → part s a 1 ≡ getD 
 unfolding part
 one-octet s a h = rw (drop-cons s a 0 h)
 
--- five octets
-five-octets : (s : Octets) (a b c d e : ℕ) → b ≡ suc a → c ≡ suc b → d ≡ suc c → e ≡ suc d → e < length s → part s a 5 ≡ getD s a 0 ∷ getD s b 0
-    ∷ getD s c 0 ∷ getD s d 0 ∷ getD s e 0 ∷ []
+-- six octets
+six-octets : (s : Octets) (a b c d e f : ℕ) → b ≡ suc a → c ≡ suc b → d ≡ suc c → e ≡ suc d → f ≡ suc e → f < length s → part s a 6 ≡ getD s a 0
+    ∷ getD s b 0 ∷ getD s c 0 ∷ getD s d 0 ∷ getD s e 0 ∷ getD s f 0 ∷ []
 unfolding part
-five-octets s a b c d e f g h i l =
+six-octets s a b c d e f g h i j k l =
     rw (
+      k,
+      j,
       i,
       h,
       g,
-      f,
       drop-cons s a 0 (omega arith),
       drop-cons s (suc a) 0 (omega arith),
       drop-cons s (suc (suc a)) 0 (omega arith),
       drop-cons s (suc (suc (suc a))) 0 (omega arith),
       drop-cons s (suc (suc (suc (suc a)))) 0 (omega arith),
+      drop-cons s (suc (suc (suc (suc (suc a))))) 0 (omega arith),
     )
 
 -- 1. The hardware -----------------------------------------------------------------------------------------------------------------------------
@@ -76,32 +78,33 @@ flag-same (suc (suc x)) = many x
         let g : leb (suc (suc x)) 1 ≡ false = lt-leb (suc (suc x)) 1 (omega arith) in
         rw (e, f, g)
 
--- the same, of five flags in a row
-flags-same : (a b c d e : ℕ) → same (a ∷ b ∷ c ∷ d ∷ e ∷ []) (flag (eqb a 1) 1 ∷ flag (eqb b 1) 1 ∷ flag (eqb c 1) 1 ∷ flag (eqb d 1) 1 ∷ flag (eqb e 1) 1 ∷ [])
-    ≡ leb a 1 && (leb b 1 && (leb c 1 && (leb d 1 && leb e 1)))
+-- the same, of six flags in a row
+flags-same : (a b c d e f : ℕ) → same (a ∷ b ∷ c ∷ d ∷ e ∷ f ∷ [])
+    (flag (eqb a 1) 1 ∷ flag (eqb b 1) 1 ∷ flag (eqb c 1) 1 ∷ flag (eqb d 1) 1 ∷ flag (eqb e 1) 1 ∷ flag (eqb f 1) 1 ∷ [])
+    ≡ leb a 1 && (leb b 1 && (leb c 1 && (leb d 1 && (leb e 1 && leb f 1))))
 unfolding same
-flags-same a b c d e = rw (flag-same a, flag-same b, flag-same c, flag-same d, flag-same e, and-on (leb e 1))
+flags-same a b c d e f = rw (flag-same a, flag-same b, flag-same c, flag-same d, flag-same e, flag-same f, and-on (leb f 1))
 
--- the settings that a block means take thirteen octets, as many as it has for them
-pub settings-long : (s : Octets) (b : ℕ) (f : Hardware) → b + 32 ≤ length s → length (settingsPart (settingsFrom s b f)) ≡ 13
+-- the settings that a block means take fourteen octets, as many as it has for them
+pub settings-long : (s : Octets) (b : ℕ) (f : Hardware) → b + 33 ≤ length s → length (settingsPart (settingsFrom s b f)) ≡ 14
 unfolding settingsPart settingsFrom le16
-settings-long s b f h = omega (arith, length-part s (b + 26) 6 (omega arith))
+settings-long s b f h = omega (arith, length-part s (b + 27) 6 (omega arith))
 
--- those thirteen octets are the one encoding of what they mean if the flags are 0 or 1
-pub settings-same : (s : Octets) (b : ℕ) (f : Hardware) → bytes s ≡ true → b + 32 ≤ length s
-    → same (part s (b + 19) 13) (settingsPart (settingsFrom s b f)) ≡ flagsOctetsOk s b
+-- those fourteen octets are the one encoding of what they mean if the flags are 0 or 1
+pub settings-same : (s : Octets) (b : ℕ) (f : Hardware) → bytes s ≡ true → b + 33 ≤ length s
+    → same (part s (b + 19) 14) (settingsPart (settingsFrom s b f)) ≡ flagsOctetsOk s b
 unfolding settingsPart settingsFrom flagsOctetsOk
 settings-same s b f w h =
     let o : ℕ → ℕ = λ k. getD s k 0 in
     let fs : Octets = flag (eqb (o (b + 19)) 1) 1 ∷ flag (eqb (o (b + 20)) 1) 1 ∷ flag (eqb (o (b + 21)) 1) 1 ∷ flag (eqb (o (b + 22)) 1) 1
-    ∷ flag (eqb (o (b + 23)) 1) 1 ∷ [] in
-    let r : Octets = part s (b + 24) 2 ++ part s (b + 26) 6 in
-    let c : part s (b + 19) 13 ≡ part s (b + 19) 5 ++ r = rw
-    (part-cut s (b + 19) 5 8 (b + 24) 13 (omega arith) refl, part-cut s (b + 24) 2 6 (b + 26) 8 (omega arith) refl) in
-    let v : part s (b + 19) 5 ≡ o (b + 19) ∷ o (b + 20) ∷ o (b + 21) ∷ o (b + 22) ∷ o (b + 23) ∷ [] =
-    five-octets s (b + 19) (b + 20) (b + 21) (b + 22) (b + 23) (omega arith) (omega arith) (omega arith) (omega arith) (omega arith) in
-    let g : same (part s (b + 19) 5 ++ r) (fs ++ r) ≡ same (part s (b + 19) 5) fs
-    && same r r = same-append (part s (b + 19) 5) r fs r (length-part s (b + 19) 5 (omega arith)) in
-    rw (c, le16-part s (b + 24) w (omega arith))
-    (g ∙ rw (same-refl r, v, and-on (same (o (b + 19) ∷ o (b + 20) ∷ o (b + 21) ∷ o (b + 22) ∷ o (b + 23) ∷ []) fs))
-    (flags-same (o (b + 19)) (o (b + 20)) (o (b + 21)) (o (b + 22)) (o (b + 23))))
+    ∷ flag (eqb (o (b + 23)) 1) 1 ∷ flag (eqb (o (b + 24)) 1) 1 ∷ [] in
+    let r : Octets = part s (b + 25) 2 ++ part s (b + 27) 6 in
+    let c : part s (b + 19) 14 ≡ part s (b + 19) 6 ++ r = rw
+    (part-cut s (b + 19) 6 8 (b + 25) 14 (omega arith) refl, part-cut s (b + 25) 2 6 (b + 27) 8 (omega arith) refl) in
+    let v : part s (b + 19) 6 ≡ o (b + 19) ∷ o (b + 20) ∷ o (b + 21) ∷ o (b + 22) ∷ o (b + 23) ∷ o (b + 24) ∷ [] =
+    six-octets s (b + 19) (b + 20) (b + 21) (b + 22) (b + 23) (b + 24) (omega arith) (omega arith) (omega arith) (omega arith) (omega arith) (omega arith) in
+    let g : same (part s (b + 19) 6 ++ r) (fs ++ r) ≡ same (part s (b + 19) 6) fs
+    && same r r = same-append (part s (b + 19) 6) r fs r (length-part s (b + 19) 6 (omega arith)) in
+    rw (c, le16-part s (b + 25) w (omega arith))
+    (g ∙ rw (same-refl r, v, and-on (same (o (b + 19) ∷ o (b + 20) ∷ o (b + 21) ∷ o (b + 22) ∷ o (b + 23) ∷ o (b + 24) ∷ []) fs))
+    (flags-same (o (b + 19)) (o (b + 20)) (o (b + 21)) (o (b + 22)) (o (b + 23)) (o (b + 24))))

@@ -28,5 +28,5 @@ controllerOctetsOk s i =
     && (nameOk (controllerOf s i .host .name)
     && (flagsOctetsOk s (base i)
     && (openOctetsOk (controllerOf s i .radio) (u16 s (base i + 1)) (part s (base i + 1 + 2) 3)
-    && (tablesOctetsOk (controllerOf s i .radio .hardware) tableRules s (base i + 292)
-    && advertisingOctetsOk (controllerOf s i .radio .lowEnergy) (controllerOf s i .radio .powered) s (base i + 4028))))))
+    && (tablesOctetsOk (controllerOf s i .radio .hardware) tableRules s (base i + 293)
+    && advertisingOctetsOk (controllerOf s i .radio .lowEnergy) (controllerOf s i .radio .powered) s (base i + 4029))))))

@@ -108,6 +108,9 @@ fn open_ok(s: &[u8], at: usize, r: RadioSettings) -> bool
         if code == codes::SET_LOW_ENERGY {
             return waits(rules::decide_low_energy(r, &s[at + 2..at + 3]));
         }
+        if code == codes::SET_BREDR {
+            return waits(rules::decide_bredr(r, &s[at + 2..at + 3]));
+        }
     }
     false
 }
@@ -122,16 +125,18 @@ fn block_place(i: u64) -> usize
     layout::open_place(i) - 1
 }
 
-// Whether each of the five flags of the block that begins at b is 0 or 1.
+// Whether each of the six flags of the block that begins at b is 0 or 1.
 fn flags_ok(s: &[u8], b: usize) -> bool
-    requires { ⌜ b + 32 ≤ length (now s) ⌝ }
+    requires { ⌜ b + 33 ≤ length (now s) ⌝ }
     ensures { λ r. ⌜ r ≡ flagsOctetsOk (now (s .entry)) b ⌝ }
 {
     if s[b + layout::places::POWERED] <= 1 {
         if s[b + layout::places::CONNECTABLE] <= 1 {
             if s[b + layout::places::DISCOVERABLE] <= 1 {
                 if s[b + layout::places::BONDABLE] <= 1 {
-                    return s[b + layout::places::LOW_ENERGY] <= 1;
+                    if s[b + layout::places::BREDR] <= 1 {
+                        return s[b + layout::places::LOW_ENERGY] <= 1;
+                    }
                 }
             }
         }

@@ -15,7 +15,8 @@ use Rattle.model.specs.Octets.{Octets, commandStatus}
 use Rattle.model.specs.State.{PlainHub}
 use Rattle.model.specs.Reasons.{statusOf}
 use Rattle.model.specs.declared.Reason.the-variants.{CodeUnknown, ControllerAbsent}
-use Rattle.model.specs.Rules.{Rule, immediate, radio, ImmediateRule, RadioRule, setPowered, setDiscoverable, setConnectable, setLowEnergy, setStaticAddress}
+use Rattle.model.specs.Rules.{Rule, immediate, radio, ImmediateRule, RadioRule, setPowered, setDiscoverable, setConnectable, setLowEnergy, setBredr}
+use Rattle.model.specs.Rules.{setStaticAddress}
 use Rattle.model.specs.Rules.{general as generalRule}
 use Rattle.model.specs.Immediate.{setBondable, setLocalName, addUuid, removeUuid, loadKeys, linkKeyList, longTermKeyList, identityKeyList}
 use Rattle.model.specs.Immediate.{addAdvertising, removeAdvertising}
@@ -117,10 +118,12 @@ module _ (s : Octets) (i code : ℕ) (ps d d′ : Octets) (r : Answer) (ok : sta
 
 -- the last of a group is what the others are not
 pub settings-last : (code : ℕ) → member code settingsCodes ≡ true → (code ≡ Codes.setPowered → ⊥) → (code ≡ Codes.setDiscoverable → ⊥)
-    → (code ≡ Codes.setConnectable → ⊥) → (code ≡ Codes.setBondable → ⊥) → (code ≡ Codes.setLowEnergy → ⊥) → code ≡ Codes.setStaticAddress
+    → (code ≡ Codes.setConnectable → ⊥) → (code ≡ Codes.setBondable → ⊥) → (code ≡ Codes.setLowEnergy → ⊥) → (code ≡ Codes.setBredr → ⊥)
+    → code ≡ Codes.setStaticAddress
 unfolding settingsCodes
-settings-last code m a b c d e =
-    member-last code _ (member-rest code _ _ (member-rest code _ _ (member-rest code _ _ (member-rest code _ _ (member-rest code _ _ m a) b) c) d) e)
+settings-last code m a b c d e f =
+    member-last code _
+    (member-rest code _ _ (member-rest code _ _ (member-rest code _ _ (member-rest code _ _ (member-rest code _ _ (member-rest code _ _ m a) b) c) d) e) f)
 
 -- the same, of the keys: Unpair Device is left
 pub keys-last : (code : ℕ) → member code keyCodes ≡ true → (code ≡ Codes.loadLinkKeys → ⊥) → (code ≡ Codes.loadLongTermKeys → ⊥)
@@ -241,6 +244,11 @@ rule-26 = refl
 pub rule-27 : rule Codes.unblockDevice ≡ some (immediate unblockDevice)
 unfolding rule find rows
 rule-27 = refl
+
+-- Set BR/EDR can be Busy (02, E5)
+pub rule-2A : rule Codes.setBredr ≡ some (radio setBredr)
+unfolding rule find rows
+rule-2A = refl
 
 -- Set Static Address can be Busy, a rule of 01's own (01, Commands, paragraph on settings)
 pub rule-2B : rule Codes.setStaticAddress ≡ some (radio setStaticAddress)

@@ -12,7 +12,9 @@ member code (c ∷ cs) = eqb code c || member code cs
 
 -- settings
 unfoldable pub settingsCodes : List ℕ
-settingsCodes = Codes.setPowered ∷ Codes.setDiscoverable ∷ Codes.setConnectable ∷ Codes.setBondable ∷ Codes.setLowEnergy ∷ Codes.setStaticAddress ∷ []
+settingsCodes =
+    Codes.setPowered ∷ Codes.setDiscoverable ∷ Codes.setConnectable ∷ Codes.setBondable ∷ Codes.setLowEnergy ∷ Codes.setBredr
+    ∷ Codes.setStaticAddress ∷ []
 
 -- keys
 unfoldable pub keyCodes : List ℕ

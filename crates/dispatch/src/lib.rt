@@ -32,6 +32,9 @@ pub fn is_settings(code: u64) -> bool
     if code == codes::SET_LOW_ENERGY {
         return true;
     }
+    if code == codes::SET_BREDR {
+        return true;
+    }
     code == codes::SET_STATIC_ADDRESS
 }
 
@@ -131,6 +134,9 @@ fn settings_command(state: &mut [u8], index: u64, code: u64, ps: &[u8], reply: &
     }
     if code == codes::SET_LOW_ENERGY {
         return settings::set_low_energy(state, index, ps, reply);
+    }
+    if code == codes::SET_BREDR {
+        return settings::set_bredr(state, index, ps, reply);
     }
     settings::set_static_address(state, index, ps, reply)
 }

@@ -91,6 +91,9 @@ fn settings_finding(state: &[u8], index: u64, code: u64, ps: &[u8]) -> Finding
     if code == codes::SET_LOW_ENERGY {
         return findings::set_low_energy(radio, busy, ps);
     }
+    if code == codes::SET_BREDR {
+        return findings::set_bredr(radio, busy, ps);
+    }
     findings::set_static_address(radio, busy, ps)
 }
 

@@ -6,7 +6,7 @@ ghost use lib.ListN.{length};
 ghost use Rattle.model.specs.State.{Controller, tableOf};
 ghost use Rattle.model.specs.Tables as Tables;
 ghost use Rattle.model.specs.Tables.{begins, blockedRule, deviceRule};
-ghost use Rattle.model.specs.Rules.{setPowered, setDiscoverable, setConnectable, setLowEnergy, setStaticAddress};
+ghost use Rattle.model.specs.Rules.{setPowered, setDiscoverable, setConnectable, setLowEnergy, setBredr, setStaticAddress};
 ghost use Rattle.model.specs.Immediate.{setBondable, setLocalName, addUuid, removeUuid, unpairDevice, blockDevice, unblockDevice, addDevice, removeDevice};
 ghost use Rattle.model.specs.Immediate.{addAdvertising, removeAdvertising, readInformation};
 ghost use Rattle.layout.specs.Places.{Ready, controllerOf};
@@ -46,18 +46,20 @@ pub fn set_discoverable(r: RadioSettings, busy: bool, ps: &[u8]) -> Finding
     }
     let v = ps[0];
     let timeout = octets::u16_at(ps, 1);
-    let bredr = rules::bredr_supported(r.hardware);
+    let supported = rules::bredr_supported(r.hardware);
     let off = rules::both(v == 0, timeout != 0);
     let limited = rules::both(v == 2, timeout == 0);
     let unpowered = rules::both(!r.powered, timeout != 0);
     let unseen = rules::both(v != 0, !r.connectable);
+    let bredr_off = rules::both(v != 0, !r.bredr);
     let mut f = why::check_at(Finding::Taken, 6, 2 < v, Reason::ValueAbove2);
     f = why::check_at(f, 7, off, Reason::TimeoutWithValue0);
     f = why::check_at(f, 7, limited, Reason::NoTimeoutWithValue2);
-    f = why::check_later(f, !bredr, Reason::BredrNotSupported);
+    f = why::check_later(f, !supported, Reason::BredrNotSupported);
     f = why::check_later(f, unpowered, Reason::DiscoverableTimeoutUnpowered);
     f = why::check_busy(f, busy);
-    why::check_later(f, unseen, Reason::NotConnectable)
+    f = why::check_later(f, unseen, Reason::NotConnectable);
+    why::check_later(f, bredr_off, Reason::BredrOff)
 }
 
 // 0x0007 Set Connectable.
@@ -80,11 +82,35 @@ pub fn set_low_energy(r: RadioSettings, busy: bool, ps: &[u8]) -> Finding
     }
     let v = ps[0];
     let le = rules::le_supported(r.hardware);
-    let bredr = rules::bredr_supported(r.hardware);
+    let supported = rules::bredr_supported(r.hardware);
     let mut f = why::check_at(Finding::Taken, 6, 1 < v, Reason::ValueAbove1);
     f = why::check_later(f, !le, Reason::LeNotSupported);
     f = why::check_busy(f, busy);
-    why::check_later(f, rules::both(v != 1, !bredr), Reason::LowEnergyNeeded)
+    f = why::check_later(f, rules::both(v != 1, !supported), Reason::LowEnergyNeeded);
+    why::check_later(f, rules::both(v != 1, !r.bredr), Reason::BredrOff)
+}
+
+// 0x002A Set BR/EDR.
+pub fn set_bredr(r: RadioSettings, busy: bool, ps: &[u8]) -> Finding
+    ensures { λ f. ⌜ f ≡ whyRadio setBredr r busy (now (ps .entry)) ⌝ }
+{
+    if ps.len() != 1 {
+        return Finding::Wrong(Reason::LengthWrong, Place::AtOctet(4));
+    }
+    let v = ps[0];
+    let supported = rules::bredr_supported(r.hardware);
+    let le = rules::le_supported(r.hardware);
+    let own = r.staticAddress;
+    let unset = octets::all_zero(&own);
+    let off_powered = rules::both(v != 1, r.powered);
+    let on_static = rules::both(v == 1, !unset);
+    let mut f = why::check_at(Finding::Taken, 6, 1 < v, Reason::ValueAbove1);
+    f = why::check_later(f, !supported, Reason::BredrNotSupported);
+    f = why::check_later(f, !le, Reason::LeNotSupported);
+    f = why::check_busy(f, busy);
+    f = why::check_later(f, off_powered, Reason::PoweredForBredrOff);
+    f = why::check_later(f, on_static, Reason::StaticAddressForBredr);
+    why::check_later(f, !r.lowEnergy, Reason::LowEnergyOff)
 }
 
 // 0x002B Set Static Address.

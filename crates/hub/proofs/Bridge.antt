@@ -9,8 +9,7 @@ use Rattle.model.specs.Lengths as Lengths
 use Rattle.model.specs.Octets.{Octets, u16}
 use Rattle.model.specs.State.{controllerAt}
 use Rattle.model.specs.declared.Hardware.{Hardware}
-use Rattle.model.specs.Image.{image}
-use Rattle.model.specs.Hub.{command, report, clock, plug, unplug, save, finished, badPacket, noRoom, codeOf, indexOf, packetOk, answerOf, octetsOf}
+use Rattle.model.specs.Hub.{command, report, clock, plug, unplug, save, saveOut, badPacket, noRoom, codeOf, indexOf, packetOk, answerOf, octetsOf}
 use Rattle.model.specs.Hub.{stateOf, clockOut, plugOut, unplugOut, unplugged}
 use Rattle.model.specs.Layout.{decode}
 use Rattle.model.specs.Meanings.{badState, hubName, hubOnAir, reading, stateOk, laidOut, meaning}
@@ -95,9 +94,9 @@ unplug-done s d d′ s′ room i r ok l k = rw (unplug-whole s room i ok l) k
 pub save-no-room : (s d : Octets) (room : ℕ) → stateOk s ≡ true → room < Lengths.largestImage → Gives (meaning s (save room)) SmallBuffer d d s
 save-no-room s d room ok l = rw (save-small s room ok l) (small s d ok)
 
--- with room, it comes to the image of the hub, with the state as it was
+-- with room, it comes to the model's word on the image of the hub, with the state as it was
 pub save-done : (s d d′ s′ : Octets) (room : ℕ) (r : Answer) → stateOk s ≡ true → Lengths.largestImage ≤ room
-    → Gives (ended s (finished (image (decode s .plain)) (decode s .plain))) r d d′ s′ → Gives (meaning s (save room)) r d d′ s′
+    → Gives (ended s (saveOut (decode s .plain))) r d d′ s′ → Gives (meaning s (save room)) r d d′ s′
 save-done s d d′ s′ room r ok l k = rw (save-whole s room ok l) k
 
 -- 3. A name, which is no call --------------------------------------------------------------------------------------------------------------------

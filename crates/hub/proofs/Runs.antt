@@ -12,15 +12,15 @@ use borrow.Author.Tests.{lt-ltb, ltb-true}
 use Rattle.model.specs.Octets.{Octets}
 use Rattle.model.specs.Lengths as Lengths
 use Rattle.model.specs.State.{PlainHub}
-use Rattle.model.specs.Image.{image}
-use Rattle.model.specs.Hub.{Call, Outcome, Result, call, callPlain, finished, keep, stateOf, within}
+use Rattle.model.specs.Hub.{Call, Outcome, Result, call, callPlain, keep, saveOut, stateOf, within}
 use Rattle.model.specs.Hub as Hub
+use Rattle.model.specs.Proof.Invariant as Invariant
 use Rattle.model.specs.Layout.{decode, encode}
 use Rattle.model.specs.WellFormed.{callWide, callsWide}
 use Rattle.model.specs.Meanings.{hubClock, hubCommand, hubLoad, hubPlug, hubReport, hubSave, hubUnplug, badState, laidOut, meaning, stateOk}
 use Rattle.model.specs.Written.{loadAnswer}
 use Rattle.model.specs.Demand3.{after, entry, trace}
-use Rattle.model.specs.Theorems.{answers-are-eight, count-fits, demand-3, load-writes-nothing}
+use Rattle.model.specs.Theorems.{answers-are-nine, count-fits, demand-3, load-writes-nothing}
 use Rattle.model.specs.Proof.Tests.{and-true, both, either, equal, no-way}
 use Rattle.model.specs.Proof.Demand3.{state-back}
 use Rattle.hub.specs.Entries.{Returns}
@@ -30,8 +30,8 @@ use Rattle.hub.specs.Runs as Runs
 
 -- 1. What a number says -------------------------------------------------------------------------------------------------------------------------
 
--- an answer of 0 to 7 and a count of 24 bits are read back from the number as they were put in
-pub read-back : (r a n : ℕ) → r ≡ a + 256 * n → a ≤ 7 → n < 2 ^ 24 → (answerIn r ≡ a) × (countIn r ≡ n)
+-- an answer of 0 to 8 and a count of 24 bits are read back from the number as they were put in
+pub read-back : (r a n : ℕ) → r ≡ a + 256 * n → a ≤ 8 → n < 2 ^ 24 → (answerIn r ≡ a) × (countIn r ≡ n)
 unfolding answerIn countIn
 read-back r a n e k l = rw e (omega arith, omega arith)
 
@@ -40,7 +40,7 @@ pub seen-is : (s : Octets) (c : Call) (r : ℕ) (before reply left : Octets) →
     → (answerIn r ≡ meaning s c .answer) × (countIn r ≡ length (meaning s c .octets)) × (octetsIn r reply ≡ meaning s c .octets)
 unfolding octetsIn
 seen-is s c r before reply left k =
-    let b = read-back r (meaning s c .answer) (length (meaning s c .octets)) (k .number) (answers-are-eight s c) (count-fits s c) in
+    let b = read-back r (meaning s c .answer) (length (meaning s c .octets)) (k .number) (answers-are-nine s c) (count-fits s c) in
     (b .0, b .1, rw (b .1, k .reply) (take-append-seam (meaning s c .octets) (drop (length (meaning s c .octets)) before)))
 
 -- 2. A step is a call of the model ----------------------------------------------------------------------------------------------------------------
@@ -149,9 +149,9 @@ by-room Q room f =
     subst Q e (f b)
 
 -- save leaves the plain hub as it was
-plain-same : (p : PlainHub) (room : ℕ) → stateOf p (within Lengths.largestImage room (finished (image p) p)) ≡ p
+plain-same : (p : PlainHub) (room : ℕ) → stateOf p (within Lengths.largestImage room (saveOut p)) ≡ p
 unfolding within stateOf
-plain-same p room = either {A = Outcome} (λ o. stateOf p o ≡ p) (ltb room Lengths.largestImage) (λ _. refl) (λ _. refl)
+plain-same p room = either {A = Outcome} (λ o. stateOf p o ≡ p) (ltb room Lengths.largestImage) (λ _. refl) (λ _. Invariant.save-same p)
 
 -- and so the state
 save-same : (s : Octets) (room : ℕ) → meaning s (Hub.save room) .state ≡ s

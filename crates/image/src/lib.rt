@@ -3,12 +3,13 @@ ghost use mathlib.Core.Path.{_≡_};
 ghost use mathlib.Core.Bool.{true};
 ghost use Prim.Native.Nat.{_+_, _*_, _≤_, _<_};
 ghost use mathlib.Core.List.{map};
-ghost use lib.ListN.{length};
+ghost use mathlib.Core.Option.{none};
+ghost use lib.ListN.{getD, length};
 ghost use Rattle.model.specs.Lengths as Lengths;
 ghost use Rattle.model.specs.Octets.{joined};
 ghost use Rattle.model.specs.State.{flag};
-ghost use Rattle.model.specs.Hub.{finished};
-ghost use Rattle.model.specs.Image.{controllerImage, image, tableImage};
+ghost use Rattle.model.specs.Hub.{finished, saveOut};
+ghost use Rattle.model.specs.Image.{controllerImage, hasImage, image, slotInImage, tableImage};
 ghost use Rattle.model.specs.Layout.{decode};
 ghost use Rattle.model.specs.Meanings.{stateOk};
 ghost use Rattle.image.specs.Images.{fixedImage, flagsIn, numbersImage};
@@ -129,7 +130,7 @@ fn save_controller(state: &[u8], index: u64, out: &mut [u8], place: usize) -> us
 }
 
 // Writes the image of the state: the controllers in ascending order, then the head before them, which says how long all is and how many there are.
-pub fn save(state: &[u8], out: &mut [u8]) -> Answer
+fn write_image(state: &[u8], out: &mut [u8]) -> Answer
     requires { ⌜ (stateOk (now state) ≡ true) × (Lengths.largestImage ≤ length (now out)) ⌝ }
     ensures { λ r. ⌜
         Gives (ended (now (state .entry)) (finished (image (decode (now (state .entry)) .plain)) (decode (now (state .entry)) .plain))) r
@@ -150,4 +151,44 @@ pub fn save(state: &[u8], out: &mut [u8]) -> Answer
     octets::put8(out, 4, 1);
     octets::put8(out, 5, count);
     Answer::Done(place)
+}
+
+// Whether an image can say what stands at an index: no controller, or one that has BR/EDR on where it is supported.
+fn in_image(state: &[u8], index: u64) -> bool
+    requires { ⌜ (length (now state) ≡ Lengths.state) × (index < 4) ⌝ }
+    ensures { λ r. ⌜ r ≡ slotInImage (getD (decode (now (state .entry)) .plain .controllers) index none) ⌝ }
+{
+    if layout::present(state, index) {
+        let m = layout::settings_at(state, index);
+        return rules::bredr_as_supported(m.radio);
+    }
+    true
+}
+
+// Whether the state has an image.
+fn has_image(state: &[u8]) -> bool
+    requires { ⌜ length (now state) ≡ Lengths.state ⌝ }
+    ensures { λ r. ⌜ r ≡ hasImage (decode (now (state .entry)) .plain .controllers) ⌝ }
+{
+    if in_image(state, 0) {
+        if in_image(state, 1) {
+            if in_image(state, 2) {
+                return in_image(state, 3);
+            }
+        }
+    }
+    false
+}
+
+// Saves the state: its image, if it has one.
+pub fn save(state: &[u8], out: &mut [u8]) -> Answer
+    requires { ⌜ (stateOk (now state) ≡ true) × (Lengths.largestImage ≤ length (now out)) ⌝ }
+    ensures { λ r. ⌜
+        Gives (ended (now (state .entry)) (saveOut (decode (now (state .entry)) .plain))) r (now (out .entry)) (now (out .exit)) (now (state .entry))
+        ⌝ }
+{
+    if has_image(state) {
+        return write_image(state, out);
+    }
+    Answer::NotInImage
 }

@@ -98,11 +98,11 @@ pub version-is : (p : PlainHub) → readVersion p ≡ 1 ∷ 10 ∷ 0 ∷ []
 unfolding readVersion le16
 version-is p = refl
 
--- how many commands and events there are, 21 and 12, and which (01, Commands, 0x0002; 02, E1)
+-- how many commands and events there are, 22 and 12, and which (01, Commands, 0x0002; 02, E1 and E5)
 pub commands-is : (p : PlainHub) → readCommands p
-    ≡ 21 ∷ 0 ∷ 12 ∷ 0
+    ≡ 22 ∷ 0 ∷ 12 ∷ 0
     ∷ 0x03 ∷ 0 ∷ 0x04 ∷ 0 ∷ 0x05 ∷ 0 ∷ 0x06 ∷ 0 ∷ 0x07 ∷ 0 ∷ 0x09 ∷ 0 ∷ 0x0D ∷ 0 ∷ 0x0F ∷ 0 ∷ 0x10 ∷ 0 ∷ 0x11 ∷ 0
-    ∷ 0x12 ∷ 0 ∷ 0x13 ∷ 0 ∷ 0x1B ∷ 0 ∷ 0x26 ∷ 0 ∷ 0x27 ∷ 0 ∷ 0x2B ∷ 0 ∷ 0x30 ∷ 0 ∷ 0x33 ∷ 0 ∷ 0x34 ∷ 0 ∷ 0x3E ∷ 0 ∷ 0x3F ∷ 0
+    ∷ 0x12 ∷ 0 ∷ 0x13 ∷ 0 ∷ 0x1B ∷ 0 ∷ 0x26 ∷ 0 ∷ 0x27 ∷ 0 ∷ 0x2A ∷ 0 ∷ 0x2B ∷ 0 ∷ 0x30 ∷ 0 ∷ 0x33 ∷ 0 ∷ 0x34 ∷ 0 ∷ 0x3E ∷ 0 ∷ 0x3F ∷ 0
     ∷ 0x04 ∷ 0 ∷ 0x05 ∷ 0 ∷ 0x06 ∷ 0 ∷ 0x07 ∷ 0 ∷ 0x08 ∷ 0 ∷ 0x14 ∷ 0 ∷ 0x15 ∷ 0 ∷ 0x16 ∷ 0 ∷ 0x1A ∷ 0 ∷ 0x1B ∷ 0 ∷ 0x23 ∷ 0 ∷ 0x24 ∷ 0 ∷ []
 unfolding readCommands commandCodes eventCodes words le16
 commands-is p = refl

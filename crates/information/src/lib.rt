@@ -31,9 +31,9 @@ use model::codes;
 use model::events;
 use model::statuses;
 
-// What Read Commands returns: the counts, 21 and 12, then the codes of the commands and of the events, two octets each.
-const COMMANDS: [u8; 70] = [
-    21,
+// What Read Commands returns: the counts, 22 and 12, then the codes of the commands and of the events, two octets each.
+const COMMANDS: [u8; 72] = [
+    22,
     0,
     12,
     0,
@@ -66,6 +66,8 @@ const COMMANDS: [u8; 70] = [
     0x26,
     0,
     0x27,
+    0,
+    0x2A,
     0,
     0x2B,
     0,
@@ -132,7 +134,7 @@ pub fn read_version(state: &[u8], index: u64, ps: &[u8], reply: &mut [u8]) -> An
     general_reply(index, codes::READ_VERSION, ps, &body, reply)
 }
 
-// 0x0002 Read Commands: 21 commands and 12 events, then their codes, two octets each.
+// 0x0002 Read Commands: 22 commands and 12 events, then their codes, two octets each.
 pub fn read_commands(state: &[u8], index: u64, ps: &[u8], reply: &mut [u8]) -> Answer
     requires { ⌜ (stateOk (now state) ≡ true) × (Lengths.replyBuffer ≤ length (now reply)) ⌝ }
     ensures { λ r. ⌜

@@ -116,8 +116,8 @@ module _ (s : Octets) (i : ℕ) (r : Ready s i) where
   -- the same at the places as the code counts them
   pub turns-laid : (m : Settings) (old t : Schedule) → old ≡ controllerOf s i .host .advertising .schedule → length (m .radio .staticAddress) ≡ 6
       → length (t .durations) ≡ 5 → length (t .timeouts) ≡ 5
-      → clearedSlots (clearedSlots (writeAt (writeAt s (base i + 19) (settingsPart m)) (base i + 4028) (schedulePart t)) (base i + 4051) (old .durations)
-      (t .durations)) (base i + 4211) (old .durations) (t .durations)
+      → clearedSlots (clearedSlots (writeAt (writeAt s (base i + 19) (settingsPart m)) (base i + 4029) (schedulePart t)) (base i + 4052) (old .durations)
+      (t .durations)) (base i + 4212) (old .durations) (t .durations)
       ≡ encode (putController (decode s) i (withTurns (withSettings (controllerOf s i) m) t))
   unfolding placeOf placeAt sizes
   turns-laid m old t e na nd nt = rw e (turns-changed m t na nd nt)
@@ -161,7 +161,7 @@ module _ (s : Octets) (i : ℕ) (r : Ready s i) where
 
   -- the same at the places as the code counts them
   pub instance-laid : (t : Schedule) (k : ℕ) (p q : Octets) → 1 ≤ k → k ≤ 5 → length (t .durations) ≡ 5 → length (t .timeouts) ≡ 5
-      → writeAt (writeAt (writeAt s (base i + 4028) (schedulePart t)) (base i + 4051 + 32 * (k - 1)) (dataPart p)) (base i + 4211 + 32 * (k - 1)) (dataPart q)
+      → writeAt (writeAt (writeAt s (base i + 4029) (schedulePart t)) (base i + 4052 + 32 * (k - 1)) (dataPart p)) (base i + 4212 + 32 * (k - 1)) (dataPart q)
       ≡ encode (putController (decode s) i (withInstanceData (controllerOf s i) t k p q))
   unfolding placeOf placeAt sizes
   instance-laid t k p q l m nd nt =
@@ -206,7 +206,7 @@ module _ (s : Octets) (i : ℕ) (r : Ready s i) where
       record { short = omega arith; means = rw e (data-back o l); most = l; inside = let z = r .long in omega arith }
 
   -- Adv_Data of instance k
-  pub adv-there : (k at : ℕ) → 1 ≤ k → k ≤ 5 → at ≡ base i + 4051 + 32 * (k - 1)
+  pub adv-there : (k at : ℕ) → 1 ≤ k → k ≤ 5 → at ≡ base i + 4052 + 32 * (k - 1)
       → DataThere at (dataOf (controllerOf s i .host .advertising .advData) k)
   adv-there k at l m e =
       let b = r .below in
@@ -214,7 +214,7 @@ module _ (s : Octets) (i : ℕ) (r : Ready s i) where
       (data-short _ _ k (advertising-fit _ _ _ advertising-fine .advData)) (omega arith)
 
   -- Scan_Rsp of instance k
-  pub scan-there : (k at : ℕ) → 1 ≤ k → k ≤ 5 → at ≡ base i + 4211 + 32 * (k - 1)
+  pub scan-there : (k at : ℕ) → 1 ≤ k → k ≤ 5 → at ≡ base i + 4212 + 32 * (k - 1)
       → DataThere at (dataOf (controllerOf s i .host .advertising .scanRsp) k)
   scan-there k at l m e =
       let b = r .below in

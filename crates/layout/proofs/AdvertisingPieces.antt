@@ -46,7 +46,7 @@ u16-drop o a k =
 
 -- the schedule of the block that begins at b
 unfoldable pub scheduleFrom : Octets → ℕ → Schedule
-scheduleFrom s b = record { durations = fiveFrom s (b + 4028); timeouts = fiveFrom s (b + 4038); onAir = getD s (b + 4048) 0; left = u16 s (b + 4049) }
+scheduleFrom s b = record { durations = fiveFrom s (b + 4029); timeouts = fiveFrom s (b + 4039); onAir = getD s (b + 4049) 0; left = u16 s (b + 4050) }
 
 -- it is the controller's
 pub schedule-at : (s : Octets) (i : ℕ) → scheduleFrom s (base i) ≡ controllerOf s i .host .advertising .schedule
@@ -54,21 +54,21 @@ unfolding scheduleFrom fiveFrom controllerOf controllerBack advertisingBack sche
 schedule-at s i =
     let b = base i in
     let o = drop 6 (part s b Lengths.block) in
-    let at : (k n : ℕ) → k + 1 < 343 → b + (6 + (4022 + k)) ≡ n → u16 (drop 4022 o) k ≡ u16 s n = λ k n l e.
-    u16-drop o 4022 k ∙ u16-at s b (4022 + k) (omega arith) ∙ ap (λ (x : ℕ). u16 s x) e in
-    let on : getD (drop 4022 o) 20 0 ≡ getD s (b + 4048) 0 = getD-drop 4022 o 20 0 ∙ octet-at s b 4042 (lit< tt) in
+    let at : (k n : ℕ) → k + 1 < 343 → b + (6 + (4023 + k)) ≡ n → u16 (drop 4023 o) k ≡ u16 s n = λ k n l e.
+    u16-drop o 4023 k ∙ u16-at s b (4023 + k) (omega arith) ∙ ap (λ (x : ℕ). u16 s x) e in
+    let on : getD (drop 4023 o) 20 0 ≡ getD s (b + 4049) 0 = getD-drop 4023 o 20 0 ∙ octet-at s b 4043 (lit< tt) in
     rw (
-      at 0 (b + 4028) (lit< tt) refl,
-      at 2 (b + 4028 + 2) (lit< tt) (omega arith),
-      at 4 (b + 4028 + 4) (lit< tt) (omega arith),
-      at 6 (b + 4028 + 6) (lit< tt) (omega arith),
-      at 8 (b + 4028 + 8) (lit< tt) (omega arith),
-      at 10 (b + 4038) (lit< tt) (omega arith),
-      at 12 (b + 4038 + 2) (lit< tt) (omega arith),
-      at 14 (b + 4038 + 4) (lit< tt) (omega arith),
-      at 16 (b + 4038 + 6) (lit< tt) (omega arith),
-      at 18 (b + 4038 + 8) (lit< tt) (omega arith),
-      at 21 (b + 4049) (lit< tt) (omega arith),
+      at 0 (b + 4029) (lit< tt) refl,
+      at 2 (b + 4029 + 2) (lit< tt) (omega arith),
+      at 4 (b + 4029 + 4) (lit< tt) (omega arith),
+      at 6 (b + 4029 + 6) (lit< tt) (omega arith),
+      at 8 (b + 4029 + 8) (lit< tt) (omega arith),
+      at 10 (b + 4039) (lit< tt) (omega arith),
+      at 12 (b + 4039 + 2) (lit< tt) (omega arith),
+      at 14 (b + 4039 + 4) (lit< tt) (omega arith),
+      at 16 (b + 4039 + 6) (lit< tt) (omega arith),
+      at 18 (b + 4039 + 8) (lit< tt) (omega arith),
+      at 21 (b + 4050) (lit< tt) (omega arith),
       on,
     )
 
@@ -311,7 +311,7 @@ kept-pieces x adv scan bs ds (five-data a1 a2 a3 a4 a5) (five-data s1 s2 s3 s4 s
       slot-kept b5 d5 s5 (g .4),
     )
 
--- settings take 13 octets
+-- settings take 14 octets
 pub length-settings : (m : Settings) → length (m .radio .staticAddress) ≡ 6 → length (settingsPart m) ≡ getD sizes 3 0
 unfolding settingsPart le16 sizes
 length-settings m n = omega arith
@@ -364,7 +364,7 @@ data-pieces x (suc (suc (suc (suc (suc (suc k)))))) adv scan f g l m = absurd (o
 
 -- where the data of instance k lie, each way
 pub data-places : (i k : ℕ) → 1 ≤ k → k ≤ 5
-    → (base i + 4051 + 32 * (k - 1) ≡ placeOf i (11 + k)) × (base i + 4211 + 32 * (k - 1) ≡ placeOf i (11 + (5 + k)))
+    → (base i + 4052 + 32 * (k - 1) ≡ placeOf i (11 + k)) × (base i + 4212 + 32 * (k - 1) ≡ placeOf i (11 + (5 + k)))
 unfolding placeOf placeAt sizes
 data-places i zero l m = absurd (omega arith)
 data-places i (suc zero) l m = (omega arith, omega arith)

@@ -13,7 +13,7 @@ use Rattle.model.specs.declared.Hardware.{Hardware}
 use Rattle.model.specs.Octets.{Octets, le16, le32}
 use Rattle.model.specs.Advertising.{noAdvertising, noSchedule}
 use Rattle.model.specs.Commands.{words}
-use Rattle.model.specs.State.{OpenCommand, flag, fresh, idle, leSupported, noTables, noTimer, plugged, settingsOf}
+use Rattle.model.specs.State.{OpenCommand, bredrSupported, flag, fresh, idle, leSupported, noTables, noTimer, plugged, settingsOf}
 use Rattle.model.specs.Tables.{blockedRule, deviceRule, identityKeyRule, linkKeyRule, longTermKeyRule, tableRules, uuidRule}
 use Rattle.model.specs.Layout.{dataPart, schedulePart}
 use Rattle.model.specs.Layout.{block, blocks, decode, encode, hardwarePart, occupancy, openPart, region, settingsPart, slotOctets, slots}
@@ -21,7 +21,7 @@ use Rattle.model.specs.Meanings.{stateOk}
 use Rattle.model.specs.Proof.Demand3.{state-back, state-well}
 use Rattle.octets.specs.Parts.{placeAt, writeAt}
 use Rattle.octets.proofs.Parts.{join, lengths, write-split, write-whole}
-use Rattle.layout.specs.Places.{base, hardwareHead, openAt, placeOf, presentAt, putController, sizes, withClock}
+use Rattle.layout.specs.Places.{base, hardwareHead, openAt, placeOf, presentAt, putController, sizes, transportsOf, withClock}
 use Rattle.layout.proofs.Reading.{absent-open, absent-slot}
 use Rattle.layout.proofs.Lens.{Shaped, advertisingPieces, join-block, piece-write, pieces, regionPieces, shaped, state-is, state-put, withBlock}
 use Rattle.layout.proofs.Lens.{withSlot}
@@ -50,15 +50,16 @@ length-hardware : (f : Hardware) → length (f .publicAddress) ≡ 6 → length 
 unfolding hardwarePart le16 le32
 length-hardware f n = omega arith
 
--- with 1 before them, the hardware and the flag of Low Energy, they are those of a controller just plugged
+-- with 1 before them, the hardware and the flags of BR/EDR and Low Energy, they are those of a controller just plugged
 filled-pieces : (f : Hardware) → length (f .publicAddress) ≡ 6
-    → writeIn (writeIn (writeIn zeroPieces 0 0 (1 ∷ [])) 2 0 (hardwarePart f)) 3 4 (flag (leSupported f) 1 ∷ []) ≡ pieces (plugged f) none
-unfolding zeroPieces sizes writeIn writeAt pieces openPart plugged settingsPart settingsOf noTimer noTables flag le16 le32 regionPieces region
+    → writeIn (writeIn (writeIn zeroPieces 0 0 (1 ∷ [])) 2 0 (hardwarePart f)) 3 4 (transportsOf f) ≡ pieces (plugged f) none
+unfolding zeroPieces sizes transportsOf writeIn writeAt pieces openPart plugged settingsPart settingsOf noTimer noTables flag le16 le32 regionPieces region
     advertisingPieces schedulePart dataPart words noAdvertising noSchedule occupancy slots slotOctets tableRules uuidRule linkKeyRule longTermKeyRule
     identityKeyRule blockedRule deviceRule
 filled-pieces f n =
     let hw : writeAt (replicate 13 0) 0 (hardwarePart f) ≡ hardwarePart f = write-whole (replicate 13 0) (hardwarePart f) (length-hardware f n) in
-    ap {B = List Octets} (λ x. (1 ∷ []) ∷ replicate 5 0 ∷ x ∷ (0 ∷ 0 ∷ 0 ∷ 0 ∷ flag (leSupported f) 1 ∷ replicate 8 0) ∷ drop 4 zeroPieces) hw
+    ap {B = List Octets}
+    (λ x. (1 ∷ []) ∷ replicate 5 0 ∷ x ∷ (0 ∷ 0 ∷ 0 ∷ 0 ∷ flag (bredrSupported f) 1 ∷ flag (leSupported f) 1 ∷ replicate 8 0) ∷ drop 4 zeroPieces) hw
 
 -- the hardware in two writes
 two-parts : (d : Octets) (b : ℕ) (f : Hardware) → writeAt (writeAt d (b + 6) (hardwareHead f)) (b + 13) (f .publicAddress) ≡ writeAt d (b + 6) (hardwarePart f)
@@ -76,10 +77,10 @@ module _ (s : Octets) (i : ℕ) (f : Hardware) (ok : stateOk s ≡ true) (l : i 
   zero-now : s ≡ withBlock (decode s) i (join zeroPieces)
   zero-now = state-back s ok ∙ state-is (decode s) i (shape .below) ∙ rw (absent-slot s i l gone, zero-block (getD (decode s .openCommands) i none))
 
-  -- present, hardware and Low Energy, each in its piece
-  three-writes : writeAt (writeAt (writeAt s (placeOf i 0 + 0) (1 ∷ [])) (placeOf i 2 + 0) (hardwarePart f)) (placeOf i 3 + 4) (flag (leSupported f) 1 ∷ [])
+  -- present, hardware and the two flags, each in its piece
+  three-writes : writeAt (writeAt (writeAt s (placeOf i 0 + 0) (1 ∷ [])) (placeOf i 2 + 0) (hardwarePart f)) (placeOf i 3 + 4) (transportsOf f)
       ≡ withBlock (decode s) i (join (pieces (plugged f) none))
-  unfolding sizes
+  unfolding sizes transportsOf
   three-writes =
       let h = decode s in
       let ps = writeIn zeroPieces 0 0 (1 ∷ []) in
@@ -91,8 +92,8 @@ module _ (s : Octets) (i : ℕ) (f : Hardware) (ok : stateOk s ≡ true) (l : i 
       ∙ piece-write h i shape zeroPieces zero-sized 0 0 (1 ∷ []) (lit< tt) (lit≤ tt) in
       let two = ap (λ (x : Octets). writeAt x (placeOf i 2 + 0) (hardwarePart f)) one
       ∙ piece-write h i shape ps z 2 0 (hardwarePart f) (lit< tt) (omega arith) in
-      ap (λ (x : Octets). writeAt x (placeOf i 3 + 4) (flag (leSupported f) 1 ∷ [])) two
-      ∙ piece-write h i shape qs y 3 4 (flag (leSupported f) 1 ∷ []) (lit< tt) (lit≤ tt)
+      ap (λ (x : Octets). writeAt x (placeOf i 3 + 4) (transportsOf f)) two
+      ∙ piece-write h i shape qs y 3 4 (transportsOf f) (lit< tt) (lit≤ tt)
       ∙ ap (λ (x : List Octets). withBlock h i (join x)) (filled-pieces f n)
 
   -- with the pieces of a controller just plugged, the state is that of the hub with it
@@ -103,9 +104,9 @@ module _ (s : Octets) (i : ℕ) (f : Hardware) (ok : stateOk s ≡ true) (l : i 
       let p : withSlot (decode s) i (some (plugged f)) none ≡ putController (decode s) i (plugged f) = rw o at (put-controller (decode s) i (plugged f)) in
       rw (← join-block (plugged f) none) (state-put (decode s) i (some (plugged f)) none (shape .beside)) ∙ ap encode p
 
-  -- the four writes of plug: present, the hardware in two parts, Low Energy
+  -- the four writes of plug: present, the hardware in two parts, the two flags
   pub block-filled : writeAt (writeAt (writeAt (writeAt s (base i) (1 ∷ [])) (base i + 6) (hardwareHead f)) (base i + 13) (f .publicAddress))
-      (base i + 23) (flag (leSupported f) 1 ∷ [])
+      (base i + 23) (transportsOf f)
       ≡ encode (putController (decode s) i (plugged f))
   unfolding placeOf placeAt sizes
   block-filled =

@@ -28,7 +28,7 @@ pub ruleset tests = (eq-eqb, ne-eqb, le-leb, lt-leb, le-ltb, lt-ltb)
 
 -- where the tables lie in a block
 abbrev pub offsets : List ℕ
-offsets = 292 ∷ 840 ∷ 1644 ∷ 2800 ∷ 3540 ∷ 3768 ∷ []
+offsets = 293 ∷ 841 ∷ 1645 ∷ 2801 ∷ 3541 ∷ 3769 ∷ []
 
 -- inside it
 pub offset-below : (k : ℕ) → getD offsets k 0 < Lengths.block
@@ -58,11 +58,11 @@ table-is i k l = rw (offset-is k l)
 
 -- the flags and the timer, then the address
 pub settings-put : (s : Octets) (i : ℕ) (m : Settings) → Ready s i → length (m .radio .staticAddress) ≡ 6
-    → writeAt (writeAt s (base i + 19) (settingsHead m)) (base i + 26) (m .radio .staticAddress) ≡ encode
+    → writeAt (writeAt s (base i + 19) (settingsHead m)) (base i + 27) (m .radio .staticAddress) ≡ encode
     (putController (decode s) i (withSettings (controllerOf s i) m))
 unfolding placeOf placeAt sizes settingsHead settingsPart le16
 settings-put s i m r n =
-    let e : base i + 26 ≡ base i + 19 + 7 = omega arith in
+    let e : base i + 27 ≡ base i + 19 + 8 = omega arith in
     rw e (sym (write-split s (base i + 19) (settingsHead m) (m .radio .staticAddress)) ∙ settings-changed s i r m n)
 
 -- the code, the parameters, zeros

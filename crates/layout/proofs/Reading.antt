@@ -134,7 +134,7 @@ absent-controller s i e = go (ltb i 4) refl
 -- 3. The parts of a controller ----------------------------------------------------------------------------------------------------------------
 
 -- what stands in the block of a controller stands in the state: an octet
-pub octet-at : (s : Octets) (b k : ℕ) → k < 4365 → getD (drop 6 (part s b Lengths.block)) k 0 ≡ getD s (b + (6 + k)) 0
+pub octet-at : (s : Octets) (b k : ℕ) → k < 4366 → getD (drop 6 (part s b Lengths.block)) k 0 ≡ getD s (b + (6 + k)) 0
 octet-at s b k h = getD-drop 6 (part s b Lengths.block) k 0 ∙ getD-part s b Lengths.block (6 + k) (omega arith)
 
 -- a part
@@ -143,7 +143,7 @@ unfolding part
 part-at s b k n h = rw (drop-drop k 6 (part s b Lengths.block)) (part-part s b Lengths.block (6 + k) n h)
 
 -- a number of two octets
-pub u16-at : (s : Octets) (b k : ℕ) → k < 4364 → u16 (drop 6 (part s b Lengths.block)) k ≡ u16 s (b + (6 + k))
+pub u16-at : (s : Octets) (b k : ℕ) → k < 4365 → u16 (drop 6 (part s b Lengths.block)) k ≡ u16 s (b + (6 + k))
 unfolding u16
 u16-at s b k h =
     let e : b + (6 + (k + 1)) ≡ b + (6 + k) + 1 = omega arith in
@@ -174,10 +174,11 @@ settingsFrom s b f = record {
     hardware = f;
     powered = eqb (getD s (b + 19) 0) 1;
     connectable = eqb (getD s (b + 20) 0) 1;
-    lowEnergy = eqb (getD s (b + 23) 0) 1;
-    staticAddress = part s (b + 26) 6;
+    bredr = eqb (getD s (b + 23) 0) 1;
+    lowEnergy = eqb (getD s (b + 24) 0) 1;
+    staticAddress = part s (b + 27) 6;
   };
-  host = record { timer = record { discoverable = eqb (getD s (b + 21) 0) 1; seconds = u16 s (b + 24) }; bondable = eqb (getD s (b + 22) 0) 1 };
+  host = record { timer = record { discoverable = eqb (getD s (b + 21) 0) 1; seconds = u16 s (b + 25) }; bondable = eqb (getD s (b + 22) 0) 1 };
 }
 
 -- they are the controller's settings
@@ -189,16 +190,17 @@ settings-at s i =
       octet-at s b 13 (lit< tt),
       octet-at s b 14 (lit< tt),
       octet-at s b 17 (lit< tt),
-      part-at s b 20 6 (lit≤ tt),
+      octet-at s b 18 (lit< tt),
+      part-at s b 21 6 (lit≤ tt),
       octet-at s b 15 (lit< tt),
-      u16-at s b 18 (lit< tt),
+      u16-at s b 19 (lit< tt),
       octet-at s b 16 (lit< tt),
     )
 
 -- the name, where it lies
 pub name-at : (s : Octets) (i : ℕ) → part s (placeOf i 4) 260 ≡ controllerOf s i .host .name
 unfolding placeOf placeAt sizes controllerOf controllerBack
-name-at s i = sym (part-at s (base i) 26 260 (lit≤ tt))
+name-at s i = sym (part-at s (base i) 27 260 (lit≤ tt))
 
 -- the clock, at the start
 pub clock-at : (s : Octets) → u32 s 0 ≡ decode s .plain .clock

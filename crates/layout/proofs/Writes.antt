@@ -76,7 +76,7 @@ schedule-put s at t n m =
     rw (e21, e20) (sym (a ∙ b ∙ c))
 
 -- settings: flags and timer, then the address
-pub settings-written : (s : Octets) (at : ℕ) (m : Settings) → writeAt (writeAt s at (settingsHead m)) (at + 7) (m .radio .staticAddress)
+pub settings-written : (s : Octets) (at : ℕ) (m : Settings) → writeAt (writeAt s at (settingsHead m)) (at + 8) (m .radio .staticAddress)
     ≡ writeAt s at (settingsPart m)
 unfolding settingsHead settingsPart le16
 settings-written s at m = sym (write-split s at (settingsHead m) (m .radio .staticAddress))

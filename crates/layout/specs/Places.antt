@@ -10,7 +10,7 @@ use Rattle.model.specs.Lengths as Lengths
 use Rattle.model.specs.declared.Hardware.{Hardware}
 use Rattle.model.specs.declared.Settings.{Settings}
 use Rattle.model.specs.Octets.{Octets, le16, le32}
-use Rattle.model.specs.State.{Controller, Hub, OpenCommand, flag, withController}
+use Rattle.model.specs.State.{Controller, Hub, OpenCommand, bredrSupported, flag, leSupported, withController}
 use Rattle.model.specs.Layout.{controllerBack, decode}
 use Rattle.model.specs.Meanings.{stateOk}
 use Rattle.octets.specs.Parts.{part, placeAt}
@@ -24,7 +24,7 @@ base i = 4 + Lengths.block * i
 -- the sizes of a block's pieces: present, open command, hardware, settings, name, six tables, schedule, Adv_Data and Scan_Rsp of five instances
 unfoldable pub sizes : List ℕ
 sizes =
-    1 ∷ 5 ∷ 13 ∷ 13 ∷ 260 ∷ 548 ∷ 804 ∷ 1156 ∷ 740 ∷ 228 ∷ 260 ∷ 23
+    1 ∷ 5 ∷ 13 ∷ 14 ∷ 260 ∷ 548 ∷ 804 ∷ 1156 ∷ 740 ∷ 228 ∷ 260 ∷ 23
     ∷ 32 ∷ 32 ∷ 32 ∷ 32 ∷ 32
     ∷ 32 ∷ 32 ∷ 32 ∷ 32 ∷ 32 ∷ []
 
@@ -61,8 +61,13 @@ settingsHead m =
     ∷ flag (m .radio .connectable) 1
     ∷ flag (m .host .timer .discoverable) 1
     ∷ flag (m .host .bondable) 1
+    ∷ flag (m .radio .bredr) 1
     ∷ flag (m .radio .lowEnergy) 1
     ∷ le16 (m .host .timer .seconds)
+
+-- the flags of BR/EDR and Low Energy that plug sets
+unfoldable pub transportsOf : Hardware → Octets
+transportsOf f = flag (bredrSupported f) 1 ∷ flag (leSupported f) 1 ∷ []
 
 -- 3. What a write makes of the hub ------------------------------------------------------------------------------------------------------------
 

@@ -18,7 +18,7 @@ ghost use Rattle.model.specs.Meanings.{stateOk};
 ghost use Rattle.octets.specs.Parts.{part, writeAt};
 ghost use Rattle.layout.specs.Advertising.{clearedSlot, clearedSlots, fiveFrom, withInstanceData};
 ghost use Rattle.layout.specs.Places.{Ready, base, controllerOf, emptied, hardwareHead, placeOf, presentAt, putController, settingsHead};
-ghost use Rattle.layout.specs.Places.{tablePlace, withClock};
+ghost use Rattle.layout.specs.Places.{tablePlace, transportsOf, withClock};
 ghost use Rattle.rules.specs.Effects.{withSettings, withTurns};
 use model::Hardware;
 use model::HostSettings;
@@ -71,7 +71,7 @@ pub fn table_place(i: u64, k: usize) -> usize
     requires { ⌜ (i < 4) × (k < 6) ⌝ }
     ensures { λ r. ⌜ r ≡ tablePlace i k ⌝ }
 {
-    let tables: [usize; 6] = [places::TABLES, 840, 1644, 2800, 3540, 3768];
+    let tables: [usize; 6] = [places::TABLES, 841, 1645, 2801, 3541, 3769];
     block_place(i) + tables[k]
 }
 
@@ -117,6 +117,7 @@ pub fn settings_at(s: &[u8], i: u64) -> Settings
         hardware,
         powered: s[b + places::POWERED] == 1,
         connectable: s[b + places::CONNECTABLE] == 1,
+        bredr: s[b + places::BREDR] == 1,
         lowEnergy: s[b + places::LOW_ENERGY] == 1,
         staticAddress,
     };
@@ -139,7 +140,7 @@ fn flag_octet(b: bool) -> u8
 }
 
 // The flags and the timer, as they lie.
-fn settings_head(m: Settings) -> [u8; 7]
+fn settings_head(m: Settings) -> [u8; 8]
     ensures { λ r. ⌜ r ≡ settingsHead m ⌝ }
 {
     let r = m.radio;
@@ -150,20 +151,21 @@ fn settings_head(m: Settings) -> [u8; 7]
     let k = flag_octet(r.connectable);
     let d = flag_octet(t.discoverable);
     let b = flag_octet(h.bondable);
+    let e = flag_octet(r.bredr);
     let l = flag_octet(r.lowEnergy);
-    [p, k, d, b, l, (n % 256) as u8, (n / 256 % 256) as u8]
+    [p, k, d, b, e, l, (n % 256) as u8, (n / 256 % 256) as u8]
 }
 
 // Writes the settings of m from a place on.
 fn write_settings(s: &mut [u8], at: usize, m: Settings)
-    requires { ⌜ (at + 13 ≤ length (now s)) × (length (m .radio .staticAddress) ≡ 6) ⌝ }
+    requires { ⌜ (at + 14 ≤ length (now s)) × (length (m .radio .staticAddress) ≡ 6) ⌝ }
     ensures { λ _. ⌜ now (s .exit) ≡ writeAt (now (s .entry)) at (settingsPart m) ⌝ }
 {
     let a = settings_head(m);
     let r = m.radio;
     let staticAddress = r.staticAddress;
     octets::copy_into(s, at, &a);
-    octets::copy_into(s, at + 7, &staticAddress);
+    octets::copy_into(s, at + 8, &staticAddress);
 }
 
 // Gives the controller at index i the settings of m; its hardware stays.
@@ -259,7 +261,17 @@ pub fn hardware_head(f: Hardware) -> [u8; 7]
     ]
 }
 
-// Fills the block of the absent index i, which is zero, with a controller of the hardware f: Low Energy is on if supported, all else is zero.
+// BR/EDR and Low Energy as flags, each on where it is supported.
+fn transports(f: Hardware) -> [u8; 2]
+    ensures { λ r. ⌜ r ≡ transportsOf f ⌝ }
+{
+    let e = flag_octet(rules::bredr_supported(f));
+    let l = flag_octet(rules::le_supported(f));
+    [e, l]
+}
+
+// Fills the block of the absent index i, which is zero, with a controller of the hardware f: BR/EDR and Low Energy are on where they
+// are supported, all else is zero.
 pub fn fill_block(s: &mut [u8], i: u64, f: Hardware)
     requires { ⌜ (stateOk (now s) ≡ true) × (i < 4) × (presentAt (now s) i ≡ false) × (length (f .publicAddress) ≡ 6) ⌝ }
     ensures { λ _. ⌜ now (s .exit) ≡ encode (putController (decode (now (s .entry))) i (plugged f)) ⌝ }
@@ -267,11 +279,11 @@ pub fn fill_block(s: &mut [u8], i: u64, f: Hardware)
     let b = block_place(i);
     let h = hardware_head(f);
     let a = f.publicAddress;
-    let l = flag_octet(f.supported / 512 % 2 == 1);
+    let on = transports(f);
     octets::put8(s, b, 1);
     octets::copy_into(s, b + places::VERSION, &h);
     octets::copy_into(s, b + places::PUBLIC_ADDRESS, &a);
-    octets::put8(s, b + places::LOW_ENERGY, l);
+    octets::copy_into(s, b + places::BREDR, &on);
 }
 
 // Advertising

@@ -20,24 +20,26 @@ pub const DISCOVERABLE: usize = 21;
 
 pub const BONDABLE: usize = 22;
 
-pub const LOW_ENERGY: usize = 23;
+pub const BREDR: usize = 23;
 
-pub const TIMER: usize = 24;
+pub const LOW_ENERGY: usize = 24;
 
-pub const STATIC_ADDRESS: usize = 26;
+pub const TIMER: usize = 25;
 
-pub const NAME: usize = 32;
+pub const STATIC_ADDRESS: usize = 27;
 
-pub const TABLES: usize = 292;
+pub const NAME: usize = 33;
 
-pub const ADVERTISING: usize = 4028;
+pub const TABLES: usize = 293;
 
-pub const TIMEOUTS: usize = 4038;
+pub const ADVERTISING: usize = 4029;
 
-pub const ON_AIR: usize = 4048;
+pub const TIMEOUTS: usize = 4039;
 
-pub const LEFT: usize = 4049;
+pub const ON_AIR: usize = 4049;
 
-pub const ADV_DATA: usize = 4051;
+pub const LEFT: usize = 4050;
 
-pub const SCAN_RSP: usize = 4211;
+pub const ADV_DATA: usize = 4052;
+
+pub const SCAN_RSP: usize = 4212;

@@ -1,8 +1,8 @@
--- The answers of a call, once: the number of each and the count of octets that comes with it (01, What a call answers). The model's results and
+-- The answers of a call, once: the number of each and the count of octets that comes with it (01, What a call answers; 8: 02, E5). The model's results and
 -- the contracts of the code are both said by these two.
 use Prim.Native.Nat.{ℕ}
 pub use Rattle.model.specs.declared.Answer.{Answer}
-pub use Rattle.model.specs.declared.Answer.the-variants.{Done, Started, Refused, BadPacket, SmallBuffer, BadState, BadArgument, BadImage}
+pub use Rattle.model.specs.declared.Answer.the-variants.{Done, Started, Refused, BadPacket, SmallBuffer, BadState, BadArgument, BadImage, NotInImage}
 
 -- the number of an answer
 abbrev pub numberOf : Answer → ℕ
@@ -14,6 +14,7 @@ numberOf SmallBuffer = 4
 numberOf BadState = 5
 numberOf BadArgument = 6
 numberOf BadImage = 7
+numberOf NotInImage = 8
 
 -- the count of octets written: only a call that is done or refused writes any
 abbrev pub countOf : Answer → ℕ
@@ -25,3 +26,4 @@ countOf SmallBuffer = 0
 countOf BadState = 0
 countOf BadArgument = 0
 countOf BadImage = 0
+countOf NotInImage = 0

@@ -1,4 +1,4 @@
--- The codes of the 23 commands (01, Commands; 02, E1).
+-- The codes of the 24 commands (01, Commands; 02, E1 and E5).
 use Prim.Native.Nat.{ℕ}
 
 -- Read Management Version Information
@@ -68,6 +68,10 @@ blockDevice = 0x0026
 -- Unblock Device
 abbrev pub unblockDevice : ℕ
 unblockDevice = 0x0027
+
+-- Set BR/EDR
+abbrev pub setBredr : ℕ
+setBredr = 0x002A
 
 -- Set Static Address
 abbrev pub setStaticAddress : ℕ

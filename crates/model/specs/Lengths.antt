@@ -3,11 +3,11 @@ use Prim.Native.Nat.{ℕ}
 
 -- the lent state: the clock, 4, and four blocks
 abbrev pub state : ℕ
-state = 17488
+state = 17492
 
 -- the block of one controller in it
 abbrev pub block : ℕ
-block = 4371
+block = 4372
 
 -- the reply buffer that a call asks for, save aside (01, What a call answers, row 4)
 abbrev pub replyBuffer : ℕ

@@ -26,5 +26,6 @@ pub mod LazyPrograms
 pub mod Rotation
 pub mod StaticAddresses
 pub mod WalkedSlots
+pub mod LowEnergyAlone
 pub mod Proof
 pub mod Theorems

@@ -9,6 +9,7 @@ pub mod Tables
 pub mod Pairs
 pub mod Parts
 pub mod Places
+pub mod SettingsRows
 pub mod Rows
 pub mod Stays
 pub mod Load

@@ -16,8 +16,9 @@ use Rattle.model.specs.Reasons.{open-reasons}
 use Rattle.model.specs.Tables.{entries, holds, longTermKeys, open-tables, ruleAt}
 use Rattle.model.specs.LookUp.{keyLength, lookUp}
 use Rattle.model.specs.Commands.{Row, commandCodes, rows}
-use Rattle.model.specs.Image.{image, load, open-image, reloadedHub}
-use Rattle.model.specs.Hub.{Call, Outcome, Result, answerOf, call, callPlain, clock, command, keep, octetsOf, plug, report, save, stateOf, unplug, within}
+use Rattle.model.specs.Image.{hasImage, image, load, open-image, reloadedHub}
+use Rattle.model.specs.Hub.{Call, Outcome, Result, answerOf, call, callPlain, clock, command, finished, keep, notInImage, octetsOf, plug, report, save}
+use Rattle.model.specs.Hub.{saveOut, stateOf, unplug, within}
 use Rattle.model.specs.WellFormed.{callWide, open-wellformed, plainOk, wellFormed}
 use Rattle.model.specs.Layout.{decode, encode}
 use Rattle.model.specs.Meanings.{badState, hubLoad, hubLookUp, hubName, hubOnAir, hubSave, laidOut, loadMeaning, loadedInto, toldLookUp, meaning, stateOk}
@@ -29,7 +30,7 @@ use Rattle.model.specs.Proof.Decode.{decode-encode}
 use Rattle.model.specs.Proof.Demand3.{demand3, encode-ok, idle-ok, meaning-is, state-back, state-well, taken}
 use Rattle.model.specs.Proof.InTime.{fairness, in-time}
 use Rattle.model.specs.Proof.Keeps.{keeps-state, load-refused-same, load-state, refused-same, state-exact}
-use Rattle.model.specs.Proof.Load.{load-ok}
+use Rattle.model.specs.Proof.Load.{load-has-image, load-ok}
 use Rattle.model.specs.Proof.LookUp.{first-matches, first-of-none, keyed, keyed-by-master, look-up-answered, looked-back, none-before-first}
 use Rattle.model.specs.Proof.LookUp.{walk-ends, walked-all, walked-found}
 use Rattle.model.specs.Proof.Names.{name-answered, name-most, name-no-zero, name-same, used-ends}
@@ -38,7 +39,7 @@ use Rattle.model.specs.Proof.Room.{notSave, room-state}
 use Rattle.model.specs.Proof.RoundTrip.{image-most, load-image}
 use Rattle.model.specs.Proof.SavedAgain.{saved-again}
 use Rattle.model.specs.Proof.Tests.{and-true, either}
-use Rattle.model.specs.Proof.Written.{load-written, one-reply, silent, state-written, to-seven}
+use Rattle.model.specs.Proof.Written.{load-written, one-reply, silent, state-written, to-eight}
 
 -- DEMAND 3, whole: for any image that load takes into any buffer and any list of calls
 pub demand-3 : Demand3
@@ -66,7 +67,7 @@ calls-keep = keeps-state
 pub load-makes : (buffer image : Octets) → bytes image ≡ true → hubLoad buffer image .answer ≡ 0 → stateOk (hubLoad buffer image .state) ≡ true
 load-makes = load-state
 
--- A call answered 2 to 7 changes nothing.
+-- A call answered 2 to 8 changes nothing.
 pub refused-changes-nothing : (s : Octets) (c : Call) → leb 2 (meaning s c .answer) ≡ true → meaning s c .state ≡ s
 refused-changes-nothing = refused-same
 
@@ -76,16 +77,28 @@ refused-load-changes-nothing = load-refused-same
 
 -- The image -----------------------------------------------------------------------------------------------------------------------------------
 
--- save of a hub, with room for the largest image
-save-call : (h : Hub) (room : ℕ) → ltb room Lengths.largestImage ≡ false → call h (save room) ≡ record { answer = 0; octets = image (h .plain); state = h }
-unfolding call keep callPlain within answerOf octetsOf stateOf
-save-call h room r = rw (r, within)
+-- save of a hub that has an image, with room for the largest one
+save-call : (h : Hub) (room : ℕ) → ltb room Lengths.largestImage ≡ false → hasImage (h .plain .controllers) ≡ true
+    → call h (save room) ≡ record { answer = 0; octets = image (h .plain); state = h }
+unfolding call keep callPlain within saveOut answerOf octetsOf stateOf
+save-call h room r i = rw (r, within, i, saveOut)
 
--- save on the state of a well-formed hub, with that room
-save-is : (h : Hub) (room : ℕ) → wellFormed h ≡ true → ltb room Lengths.largestImage ≡ false
+-- save on the state of a well-formed hub that has an image, with that room
+save-is : (h : Hub) (room : ℕ) → wellFormed h ≡ true → ltb room Lengths.largestImage ≡ false → hasImage (h .plain .controllers) ≡ true
     → hubSave (encode h) room ≡ record { answer = 0; octets = image (h .plain); state = encode h }
 unfolding hubSave laidOut
-save-is h room e r = meaning-is h (save room) e ∙ ap laidOut (save-call h room r)
+save-is h room e r i = meaning-is h (save room) e ∙ ap laidOut (save-call h room r i)
+
+-- A save of a well-formed state, with room, is answered 0 where every controller that supports BR/EDR has it on, else 8 (02, E5).
+pub saves-answered : (s : Octets) (room : ℕ) → stateOk s ≡ true → ltb room Lengths.largestImage ≡ false
+    → hubSave s room .answer ≡ elim (hasImage (decode s .plain .controllers)) [ true ↦ 0 | false ↦ 8 ]
+unfolding hubSave meaning laidOut call keep callPlain within saveOut answerOf
+saves-answered s room e r = rw (e, meaning, r, within) (go (hasImage (decode s .plain .controllers)))
+  where
+    go : (b : Bool) → answerOf (elim b [ true ↦ finished (image (decode s .plain)) (decode s .plain) | false ↦ notInImage ])
+        ≡ elim b [ true ↦ 0 | false ↦ 8 ]
+    go true = refl
+    go false = refl
 
 -- An accepted image is saved again octet for octet.
 pub accepted-image-saved-again : (buffer o : Octets) (room : ℕ) → bytes o ≡ true → hubLoad buffer o .answer ≡ 0 → ltb room Lengths.largestImage ≡ false
@@ -94,7 +107,7 @@ unfolding idle
 accepted-image-saved-again buffer o room b e r =
     let t = taken buffer o e in
     let k = load-ok o (t .hub) b (t .loads) in
-    rw (t .state, save-is (idle (t .hub)) room (idle-ok (t .hub) k) r, saved-again o (t .hub) b (t .loads))
+    rw (t .state, save-is (idle (t .hub)) room (idle-ok (t .hub) k) r (load-has-image o (t .hub) (t .loads)), saved-again o (t .hub) b (t .loads))
 
 -- load of an acceptable image
 load-is : (buffer o : Octets) (p : PlainHub) → eqb (length buffer) Lengths.state ≡ true → load o ≡ some p
@@ -102,24 +115,43 @@ load-is : (buffer o : Octets) (p : PlainHub) → eqb (length buffer) Lengths.sta
 unfolding hubLoad loadMeaning loadedInto
 load-is buffer o p n l = rw (n, loadMeaning, l)
 
+-- what is known where a save is answered 0: a state that is well formed, the room, and no supported BR/EDR off
+record Saved (s : Octets) (room : ℕ) : Type 0 where
+  state : stateOk s ≡ true
+  roomy : ltb room Lengths.largestImage ≡ false
+  held : hasImage (decode s .plain .controllers) ≡ true
+
+-- a save that is answered 0 found them all
+saved : (s : Octets) (room : ℕ) → hubSave s room .answer ≡ 0 → Saved s room
+unfolding hubSave meaning laidOut badState call keep callPlain within saveOut answerOf
+saved s room =
+    either {A = Result Octets} (λ r. r .answer ≡ 0 → Saved s room) (stateOk s)
+    (λ e. either {A = Outcome} (λ o. answerOf o ≡ 0 → Saved s room) (ltb room Lengths.largestImage) (λ _ z. absurd (omega arith))
+    (λ r. either {A = Outcome} (λ o. answerOf o ≡ 0 → Saved s room) (hasImage (decode s .plain .controllers))
+    (λ i _. record { state = e; roomy = r; held = i }) (λ _ z. absurd (omega arith))))
+    (λ _ z. absurd (omega arith))
+
 -- A saved image loads to the state that `reloadedHub` says: power and discoverable off, no timer, clock 0, nothing open, the records in the lowest slots,
 -- no advertising.
-pub saved-image-loads : (s buffer : Octets) (room : ℕ) → stateOk s ≡ true → ltb room Lengths.largestImage ≡ false → eqb (length buffer) Lengths.state ≡ true
+pub saved-image-loads : (s buffer : Octets) (room : ℕ) → hubSave s room .answer ≡ 0 → eqb (length buffer) Lengths.state ≡ true
     → hubLoad buffer (hubSave s room .octets) ≡ record { answer = 0; octets = []; state = encode (idle (reloadedHub (decode s .plain))) }
 unfolding wellFormed
-saved-image-loads s buffer room e r n =
+saved-image-loads s buffer room a n =
+    let t = saved s room a in
+    let e = t .state in
     let w = state-well s e in
     let i : hubSave s room .octets ≡ image (decode s .plain) = ap (λ (x : Octets). hubSave x room .octets) (state-back s e)
-    ∙ ap (λ (x : Result Octets). x .octets) (save-is (decode s) room w r) in
+    ∙ ap (λ (x : Result Octets). x .octets) (save-is (decode s) room w (t .roomy) (t .held)) in
     rw i (load-is buffer (image (decode s .plain)) (reloadedHub (decode s .plain)) n
-    (load-image (decode s .plain) (and-true (plainOk (decode s .plain)) _ w .0)))
+    (load-image (decode s .plain) (and-true (plainOk (decode s .plain)) _ w .0) (t .held)))
 
 -- save of a well-formed hub writes at most 16,014 octets
 save-length : (h : Hub) (room : ℕ) → wellFormed h ≡ true → length (call h (save room) .octets) ≤ Lengths.largestImage
-unfolding call keep callPlain within octetsOf wellFormed
+unfolding call keep callPlain within saveOut octetsOf wellFormed
 save-length h room e =
     either {A = Outcome} (λ o. length (octetsOf o) ≤ Lengths.largestImage) (ltb room Lengths.largestImage) (λ _. lit≤ tt)
-    (λ _. image-most (h .plain) (and-true (plainOk (h .plain)) _ e .0))
+    (λ _. either {A = Outcome} (λ o. length (octetsOf o) ≤ Lengths.largestImage) (hasImage (h .plain .controllers))
+    (λ _. image-most (h .plain) (and-true (plainOk (h .plain)) _ e .0)) (λ _. lit≤ tt))
 
 -- No image is longer than 16,014 octets, whatever is lent and whatever is loaded.
 pub no-image-longer : (s : Octets) (room : ℕ) → length (hubSave s room .octets) ≤ Lengths.largestImage
@@ -132,6 +164,11 @@ full-valid : plainOk fullHub ≡ true
 unfolding open-octets open-advertising open-state open-reasons open-tables open-image open-wellformed dualHardware records fullTable fullController fullHub
 full-valid = refl
 
+-- it has an image
+full-image : hasImage (fullHub .controllers) ≡ true
+unfolding open-octets open-state open-image dualHardware fullController fullHub
+full-image = refl
+
 -- its image has 16,014 octets
 full-length : length (image fullHub) ≡ Lengths.largestImage
 unfolding open-octets open-advertising open-state open-reasons open-tables open-image dualHardware records fullTable fullController fullHub
@@ -143,7 +180,7 @@ pub one-image-that-long : (stateOk (encode (idle fullHub)) ≡ true)
 unfolding idle
 one-image-that-long =
     let w = idle-ok fullHub full-valid in
-    (encode-ok (idle fullHub) w, ap (λ (x : Result Octets). length (x .octets)) (save-is (idle fullHub) Lengths.largestImage w refl) ∙ full-length)
+    (encode-ok (idle fullHub) w, ap (λ (x : Result Octets). length (x .octets)) (save-is (idle fullHub) Lengths.largestImage w refl full-image) ∙ full-length)
 
 -- Commands -----------------------------------------------------------------------------------------------------------------------------------
 
@@ -158,7 +195,7 @@ commands-listed = refl
 pub answer-says-what-is-written : (s : Octets) (c : Call) → Written c (meaning s c .answer) (meaning s c .octets)
 answer-says-what-is-written = state-written
 
--- A call answered 1 or 3 to 7 writes nothing.
+-- A call answered 1 or 3 to 8 writes nothing.
 pub silent-answers : (s : Octets) (c : Call) → (meaning s c .answer ≡ 0 → ⊥) → (meaning s c .answer ≡ 2 → ⊥) → meaning s c .octets ≡ []
 silent-answers s c = silent c _ _ (state-written s c)
 
@@ -166,9 +203,9 @@ silent-answers s c = silent c _ _ (state-written s c)
 pub refused-writes-one-reply : (s : Octets) (c : Call) → meaning s c .answer ≡ 2 → OneReply c (meaning s c .octets)
 refused-writes-one-reply s c = one-reply c _ _ (state-written s c)
 
--- Every answer is one of 0 to 7.
-pub answers-are-eight : (s : Octets) (c : Call) → meaning s c .answer ≤ 7
-answers-are-eight s c = to-seven c _ _ (state-written s c)
+-- Every answer is one of 0 to 8.
+pub answers-are-nine : (s : Octets) (c : Call) → meaning s c .answer ≤ 8
+answers-are-nine s c = to-eight c _ _ (state-written s c)
 
 -- Load answers 0, 5 or 7 and writes nothing but the state.
 pub load-writes-nothing : (buffer image : Octets) → (loadAnswer (hubLoad buffer image .answer) ≡ true) × (hubLoad buffer image .octets ≡ [])

@@ -9,7 +9,7 @@ use Rattle.model.specs.Lengths as Lengths
 use Rattle.model.specs.Statuses as Statuses
 use Rattle.model.specs.Codes as Codes
 use Rattle.model.specs.Octets.{Octets, commandComplete, commandStatus}
-use Rattle.model.specs.Answers.{numberOf, Done, Started, Refused, BadPacket, SmallBuffer, BadState, BadArgument, BadImage}
+use Rattle.model.specs.Answers.{numberOf, Done, Started, Refused, BadPacket, SmallBuffer, BadState, BadArgument, BadImage, NotInImage}
 use Rattle.model.specs.Reasons.{Reason, statusOf, CodeUnknown, ControllerAbsent, IndexNotNone, LengthWrong}
 use Rattle.model.specs.Hub.{Call, command, report, clock, plug, unplug, save, codeOf, indexOf, paramsOf}
 
@@ -31,14 +31,15 @@ addressCommand code =
     || (eqb code Codes.addDevice
     || eqb code Codes.removeDevice)))
 
--- the five settings commands that can be Busy (01, Commands, paragraph on settings)
+-- the six settings commands that can be Busy (01, Commands, paragraph on settings; 02, E5)
 unfoldable pub busyCommand : ℕ → Bool
 busyCommand code =
     eqb code Codes.setPowered
     || (eqb code Codes.setDiscoverable
     || (eqb code Codes.setConnectable
     || (eqb code Codes.setLowEnergy
-    || eqb code Codes.setStaticAddress)))
+    || (eqb code Codes.setBredr
+    || eqb code Codes.setStaticAddress))))
 
 -- the reasons that stand before all others: code, index, length of the parameters (01, Order inside a command)
 pub data UpToLength : Reason → Type 0 where
@@ -87,6 +88,8 @@ pub data Written : Call → ℕ → Octets → Type 0 where
   smallBuffer : {c : Call} → Written c (numberOf SmallBuffer) []
   badState : {c : Call} → Written c (numberOf BadState) []
   badArgument : {c : Call} → hasArgument c ≡ true → Written c (numberOf BadArgument) []
+  -- 8: nothing, and only save
+  notInImage : {room : ℕ} → Written (save room) (numberOf NotInImage) []
 
 -- what is answered to a host that reads beside the calls, and what is written: what it asked for, or nothing
 pub data ReadAnswer : ℕ → Octets → Type 0 where

@@ -33,6 +33,8 @@ pub const BLOCK_DEVICE: u64 = 0x0026;
 
 pub const UNBLOCK_DEVICE: u64 = 0x0027;
 
+pub const SET_BREDR: u64 = 0x002A;
+
 pub const SET_STATIC_ADDRESS: u64 = 0x002B;
 
 pub const LOAD_IDENTITY_KEYS: u64 = 0x0030;

@@ -1,7 +1,7 @@
 // Lengths in octets, as specs/Lengths.antt has them.
-pub const STATE: usize = 17488;
+pub const STATE: usize = 17492;
 
-pub const BLOCK: usize = 4371;
+pub const BLOCK: usize = 4372;
 
 pub const REPLY_BUFFER: usize = 1024;
 

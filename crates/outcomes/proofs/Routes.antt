@@ -12,10 +12,9 @@ use Rattle.model.specs.declared.Reason.the-variants.{CodeUnknown, ControllerAbs
 use Rattle.model.specs.Rules.{ImmediateRule, RadioRule, immediate, radio}
 use Rattle.model.specs.Rules.{general as generalRule}
 use Rattle.model.specs.Commands.{rule}
-use Rattle.model.specs.Hub.{Call, command, report, clock, plug, unplug, save, Outcome, finished, refused, badPacket, noRoom, anyway, call}
+use Rattle.model.specs.Hub.{Call, command, report, clock, plug, unplug, save, saveOut, Outcome, refused, badPacket, noRoom, anyway, call}
 use Rattle.model.specs.Hub.{callPlain, commandOut, underWay, indexOf, codeOf, paramsOf, packetOk, verdict, byRule, byStatus, immediateAt, radioAt}
 use Rattle.model.specs.Hub.{within, clockOut, plugOut, unplugOut, unplugged}
-use Rattle.model.specs.Image.{image}
 use Rattle.model.specs.Layout.{decode}
 use Rattle.model.specs.Meanings.{stateOk, laidOut, meaning, reading, hubName, hubOnAir}
 use Rattle.layout.specs.Places.{Ready, openAt, presentAt}
@@ -161,13 +160,13 @@ unplug-whole s room i ok l =
 -- save needs a reply buffer of 16,014 octets: with less, answer 4
 pub save-small : (s : Octets) (room : ℕ) → stateOk s ≡ true → room < Lengths.largestImage → meaning s (save room) ≡ ended s noRoom
 unfolding call callPlain ended
-save-small s room ok l = rw (meaning-well s (save room) ok, within-small Lengths.largestImage room (finished (image (decode s .plain)) (decode s .plain)) l)
+save-small s room ok l = rw (meaning-well s (save room) ok, within-small Lengths.largestImage room (saveOut (decode s .plain)) l)
 
--- with room, save writes the image and changes nothing
+-- with room, save writes the image, if there is one, and changes nothing
 pub save-whole : (s : Octets) (room : ℕ) → stateOk s ≡ true → Lengths.largestImage ≤ room
-    → meaning s (save room) ≡ ended s (finished (image (decode s .plain)) (decode s .plain))
+    → meaning s (save room) ≡ ended s (saveOut (decode s .plain))
 unfolding call callPlain ended
-save-whole s room ok l = rw (meaning-well s (save room) ok, within-enough Lengths.largestImage room (finished (image (decode s .plain)) (decode s .plain)) l)
+save-whole s room ok l = rw (meaning-well s (save room) ok, within-enough Lengths.largestImage room (saveOut (decode s .plain)) l)
 
 -- what a host reads is told in the same order: of a well-formed state the room is looked at, then what was asked
 reading-well : (s : Octets) (room : ℕ) (o : Outcome) → stateOk s ≡ true → reading s room o ≡ ended s (within Lengths.replyBuffer room o)

@@ -28,6 +28,7 @@ pub fn number(a: Answer) -> u64
         Answer::BadState => 5,
         Answer::BadArgument => 6,
         Answer::BadImage => 7,
+        Answer::NotInImage => 8,
     }
 }
 
@@ -44,6 +45,7 @@ pub fn count(a: Answer) -> usize
         Answer::BadState => 0,
         Answer::BadArgument => 0,
         Answer::BadImage => 0,
+        Answer::NotInImage => 0,
     }
 }
 

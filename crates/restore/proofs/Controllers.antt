@@ -12,7 +12,7 @@ use Rattle.model.specs.declared.Hardware.{Hardware}
 use Rattle.model.specs.declared.RadioSettings.{RadioSettings}
 use Rattle.model.specs.declared.Settings.{Settings}
 use Rattle.model.specs.Octets.{Octets, bit, bytes, number}
-use Rattle.model.specs.State.{Controller, Table, hardwareOk, noTables, noTimer, plugged, withHost, withName, withTable}
+use Rattle.model.specs.State.{Controller, Table, bredrSupported, hardwareOk, noTables, noTimer, plugged, withHost, withName, withTable}
 use Rattle.model.specs.Advertising.{noAdvertising}
 use Rattle.model.specs.Tables.{tableRules}
 use Rattle.model.specs.Image.{Parsed, controllerThen, flagsOk, nameOk, parseController, parseRadio, parseTables, radioOk}
@@ -38,23 +38,24 @@ use Rattle.model.specs.Proof.Stays.{plugged-ok}
 
 -- the settings that it gives the controller, by the places of its parts in an image
 unfoldable pub settingsFrom : Octets → ℕ → Settings
-settingsFrom image at = record {
-  radio = record {
-    hardware =
-        record {
-          publicAddress = part image at 6;
-          version = getD image (at + 6) 0;
-          manufacturer = number 0 (part image (at + 7) 2);
-          supported = number
-              0 (part image (at + 9) 4);
-        };
-    powered = false;
-    connectable = eqb (number 0 (part image (at + 13) 4) / 2 % 2) 1;
-    lowEnergy = eqb (number 0 (part image (at + 13) 4) / 512 % 2) 1;
-    staticAddress = part image (at + 17) 6;
-  };
-  host = record { timer = noTimer; bondable = eqb (number 0 (part image (at + 13) 4) / 16 % 2) 1 };
-}
+settingsFrom image at =
+    let f : Hardware = record {
+      publicAddress = part image at 6;
+      version = getD image (at + 6) 0;
+      manufacturer = number 0 (part image (at + 7) 2);
+      supported = number 0 (part image (at + 9) 4);
+    } in
+    record {
+      radio = record {
+        hardware = f;
+        powered = false;
+        connectable = eqb (number 0 (part image (at + 13) 4) / 2 % 2) 1;
+        bredr = bredrSupported f;
+        lowEnergy = eqb (number 0 (part image (at + 13) 4) / 512 % 2) 1;
+        staticAddress = part image (at + 17) 6;
+      };
+      host = record { timer = noTimer; bondable = eqb (number 0 (part image (at + 13) 4) / 16 % 2) 1 };
+    }
 
 -- they are those of the contracts, by the octets from its place on
 pub settings-from : (image : Octets) (at : ℕ) → settingsFrom image at ≡ imageSettings (drop at image)

@@ -68,10 +68,12 @@ fn settings_in(image: &[u8], at: usize) -> Settings
         manufacturer,
         supported,
     };
+    let bredr = rules::bredr_supported(hardware);
     let radio = RadioSettings {
         hardware,
         powered: false,
         connectable: flags / 2 % 2 == 1,
+        bredr,
         lowEnergy: flags / 512 % 2 == 1,
         staticAddress,
     };

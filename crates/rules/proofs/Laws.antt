@@ -13,8 +13,8 @@ use Rattle.model.specs.declared.RadioSettings.{RadioSettings}
 use Rattle.model.specs.declared.Timer.{Timer}
 use Rattle.model.specs.declared.Settings.{Settings}
 use Rattle.model.specs.Advertising.{noAdvertising, noSchedule, repowered}
-use Rattle.model.specs.State.{Host, noTimer, settingsOf, withTimer, withPowered, withConnectable, withLowEnergy, withAdvertising, withSchedule}
-use Rattle.model.specs.Rules.{on, setPowered, setConnectable, setLowEnergy}
+use Rattle.model.specs.State.{Host, noTimer, settingsOf, withTimer, withPowered, withBredr, withConnectable, withLowEnergy, withAdvertising, withSchedule}
+use Rattle.model.specs.Rules.{on, setBredr, setPowered, setConnectable, setLowEnergy}
 use Rattle.model.specs.Hub.{stepOf, ends, countdown}
 use Rattle.model.specs.WellFormed.{addressed}
 use Rattle.octets.specs.Parts.{part}
@@ -55,6 +55,7 @@ poweredTo m b = record {
         hardware = m .radio .hardware;
         powered = b;
         connectable = m .radio .connectable;
+        bredr = m .radio .bredr;
         lowEnergy = m .radio .lowEnergy;
         staticAddress =
             m .radio .staticAddress;
@@ -70,6 +71,23 @@ connectableTo m b = record {
         hardware = m .radio .hardware;
         powered = m .radio .powered;
         connectable = b;
+        bredr = m .radio .bredr;
+        lowEnergy = m .radio .lowEnergy;
+        staticAddress =
+            m .radio .staticAddress;
+      };
+  host = m .host;
+}
+
+-- the same, of BR/EDR
+abbrev pub bredrTo : Settings → Bool → Settings
+bredrTo m b = record {
+  radio =
+      record {
+        hardware = m .radio .hardware;
+        powered = m .radio .powered;
+        connectable = m .radio .connectable;
+        bredr = b;
         lowEnergy = m .radio .lowEnergy;
         staticAddress =
             m .radio .staticAddress;
@@ -104,6 +122,7 @@ pub low-energy-is : (m : Settings) (ps : Octets) → record {
         hardware = m .radio .hardware;
         powered = m .radio .powered;
         connectable = m .radio .connectable;
+        bredr = m .radio .bredr;
         lowEnergy = eqb (getD ps 0 0) 1;
         staticAddress =
             m .radio .staticAddress;
@@ -135,6 +154,21 @@ unfolding settingsTimer settingsEffect controllerOf controllerWith settingsOf se
 connectable-off m ps t n e =
     let h : Host = controllerOf m .host in
     rw n (sym (ap (λ (h : Host). settingsOf (record { radio = withConnectable (m .radio) (on ps); host = h })) (left (on ps) h (withTimer h noTimer) e)))
+
+-- Set BR/EDR on, and off
+pub bredr-on : (m : Settings) (ps : Octets) → eqb (getD ps 0 0) 1 ≡ true → bredrTo m (eqb (getD ps 0 0) 1) ≡ settingsEffect setBredr m ps
+unfolding settingsEffect controllerOf controllerWith settingsOf setBredr withBredr withTimer on octet
+bredr-on m ps e =
+    let h : Host = controllerOf m .host in
+    sym (ap (λ (h : Host). settingsOf (record { radio = withBredr (m .radio) (on ps); host = h })) (taken (on ps) h (withTimer h noTimer) e))
+
+-- off: discoverable ends too
+pub bredr-off : (m : Settings) (ps : Octets) (t : Timer) → t ≡ noTimer → eqb (getD ps 0 0) 1 ≡ false
+    → settingsTimer (bredrTo m (eqb (getD ps 0 0) 1)) t ≡ settingsEffect setBredr m ps
+unfolding settingsTimer settingsEffect controllerOf controllerWith settingsOf setBredr withBredr withTimer on octet
+bredr-off m ps t n e =
+    let h : Host = controllerOf m .host in
+    rw n (sym (ap (λ (h : Host). settingsOf (record { radio = withBredr (m .radio) (on ps); host = h })) (left (on ps) h (withTimer h noTimer) e)))
 
 -- six octets are their part of six
 pub six-whole : (ps : Octets) → length ps ≡ 6 → part ps 0 6 ≡ ps

@@ -14,11 +14,11 @@ use Rattle.model.specs.Advertising.{Advertising, dataKept, noAdvertising, noSch
 use Rattle.model.specs.declared.RadioSettings.{RadioSettings}
 use Rattle.model.specs.declared.Schedule.{Schedule}
 use Rattle.model.specs.declared.Settings.{Settings}
-use Rattle.model.specs.State.{Host, Controller, noTimer, settingsOf, withHost, withTimer, withBondable, withPowered, withConnectable, withLowEnergy}
+use Rattle.model.specs.State.{Host, Controller, noTimer, settingsOf, withHost, withTimer, withBondable, withPowered, withBredr, withConnectable, withLowEnergy}
 use Rattle.model.specs.State.{withAdvertising, withSchedule, withStaticAddress}
 use Rattle.model.specs.Reasons.{Check, firstOf, noReason, passes, statusOf}
 use Rattle.model.specs.declared.Reason.{Reason}
-use Rattle.model.specs.Rules.{RadioRule, radio, on, setPowered, setDiscoverable, setConnectable, setLowEnergy, setStaticAddress}
+use Rattle.model.specs.Rules.{RadioRule, radio, on, setPowered, setDiscoverable, setBredr, setConnectable, setLowEnergy, setStaticAddress}
 use Rattle.model.specs.Hub.{startsBy, countdown, tick}
 use Rattle.model.specs.WellFormed.{advertisingOk, controllerOk, timerOk}
 use Rattle.model.specs.Proof.Advertising.{five-each, rescheduled-same}
@@ -246,6 +246,30 @@ low-energy-only c ps e = record { settings = settings (on ps); turns = turns (on
     whole true = same-turns c (settingsOf (made r (plain c))) e
     whole false = rw (none-left _ _ (c .host .advertising) (controller-fit c e .advertising))
 
+-- the same, of Set BR/EDR
+pub bredr-only : (c : Controller) (ps : Octets) → controllerOk c ≡ true → OnlySettings setBredr c ps
+unfolding settingsEffect turnsEffect controllerOf controllerWith settingsOf withSettings setBredr withBredr withTimer
+bredr-only c ps e = record { settings = settings (on ps); turns = turns (on ps); whole = whole (on ps) }
+  where
+    r : RadioSettings
+    r = withBredr (c .radio) (on ps)
+
+    settings : (x : Bool) → settingsOf (made r (either x (c .host) (withTimer (c .host) noTimer))) ≡ settingsOf
+        (made r (either x (plain c) (withTimer (plain c) noTimer)))
+    settings true = refl
+    settings false = refl
+
+    turns : (x : Bool) → made r (either x (c .host) (withTimer (c .host) noTimer)) .host .advertising .schedule ≡
+        made r (either x (bare c) (withTimer (bare c) noTimer)) .host .advertising .schedule
+    turns true = refl
+    turns false = refl
+
+    whole : (x : Bool) → made r (either x (c .host) (withTimer (c .host) noTimer)) ≡ withTurns
+        (withSettings c (settingsOf (made r (either x (plain c) (withTimer (plain c) noTimer)))))
+        (made r (either x (bare c) (withTimer (bare c) noTimer)) .host .advertising .schedule)
+    whole true = same-turns c (settingsOf (made r (plain c))) e
+    whole false = same-turns c (settingsOf (made r (withTimer (plain c) noTimer))) e
+
 -- the same, of Set Static Address
 pub static-address-only : (c : Controller) (ps : Octets) → controllerOk c ≡ true → OnlySettings setStaticAddress c ps
 unfolding settingsEffect turnsEffect controllerOf controllerWith settingsOf withSettings setStaticAddress withStaticAddress
@@ -286,6 +310,15 @@ discoverable-turns m t ps = refl
 pub connectable-turns : (m : Settings) (t : Schedule) (ps : Octets) → turnsEffect setConnectable m t ps ≡ t
 unfolding turnsEffect controllerWith setConnectable withTimer
 connectable-turns m t ps = go (on ps)
+  where
+    go : (x : Bool) → either x (controllerWith m t .host) (withTimer (controllerWith m t .host) noTimer) .advertising .schedule ≡ t
+    go true = refl
+    go false = refl
+
+-- and Set BR/EDR
+pub bredr-turns : (m : Settings) (t : Schedule) (ps : Octets) → turnsEffect setBredr m t ps ≡ t
+unfolding turnsEffect controllerWith setBredr withTimer
+bredr-turns m t ps = go (on ps)
   where
     go : (x : Bool) → either x (controllerWith m t .host) (withTimer (controllerWith m t .host) noTimer) .advertising .schedule ≡ t
     go true = refl

@@ -13,7 +13,7 @@ use Rattle.model.specs.declared.Answer.the-variants.{Done, Started, Refused}
 use Rattle.model.specs.Reasons.{statusOf, firstOf}
 use Rattle.model.specs.declared.Reason.{Reason}
 use Rattle.model.specs.Rules.{RadioRule}
-use Rattle.model.specs.WellFormed.{addressed, settingsFit}
+use Rattle.model.specs.WellFormed.{addressed, mayBeDiscoverable, settingsFit}
 use Rattle.rules.specs.declared.Decision.{Decision}
 use Rattle.rules.specs.declared.Decision.the-variants.{Refuse, Reject, Wait, Act}
 
@@ -55,7 +55,8 @@ decisionStatus Act = 0
 unfoldable pub isStarted : Decision → Bool
 isStarted d = eqb (numberOf (decisionAnswer 0 d)) (numberOf Started)
 
--- what the settings alone must keep: connectable for discoverable, power and discoverable for a timer, an address for power (01, The image, Well formed)
+-- what the settings alone must keep: connectable and BR/EDR for discoverable, power and discoverable for a timer, an address for power (01, The image,
+-- Well formed; 02, E5)
 unfoldable pub settingsOk : Settings → Bool
 settingsOk m =
-    settingsFit (m .host .timer .discoverable) (m .radio .connectable) (eqb (m .host .timer .seconds) 0) (m .radio .powered) (addressed (m .radio))
+    settingsFit (m .host .timer .discoverable) (mayBeDiscoverable (m .radio)) (eqb (m .host .timer .seconds) 0) (m .radio .powered) (addressed (m .radio))

@@ -17,6 +17,7 @@ withSettings c m = record {
     hardware = c .radio .hardware;
     powered = m .radio .powered;
     connectable = m .radio .connectable;
+    bredr = m .radio .bredr;
     lowEnergy = m .radio .lowEnergy;
     staticAddress = m .radio .staticAddress;
   };

@@ -1,18 +1,18 @@
 // What the commands decide and change, by value: no function here touches the lent state or a reply.
+pub mod effects;
+
 ghost use mathlib.Core.Path.{_≡_};
 ghost use mathlib.Core.Bool.{_&&_, _||_};
 ghost use Prim.Native.Nat.{_+_, _≤_};
 ghost use lib.ListN.{length};
 ghost use Rattle.model.specs.State as State;
 ghost use Rattle.model.specs.Hub as Hub;
-ghost use Rattle.model.specs.Image.{radioOk};
+ghost use Rattle.model.specs.Image.{bredrAsSupported, radioOk};
 ghost use Rattle.model.specs.WellFormed as WellFormed;
-ghost use Rattle.model.specs.Rules.{setPowered, setDiscoverable, setConnectable, setLowEnergy, setStaticAddress};
+ghost use Rattle.model.specs.Rules.{setPowered, setDiscoverable, setConnectable, setLowEnergy, setBredr, setStaticAddress};
 ghost use Rattle.octets.specs.Parts.{part};
 ghost use Rattle.rules.specs.Decisions.{decision, settingsOk};
-ghost use Rattle.rules.specs.Effects.{settingsEffect, settingsTimer, settingsBondable};
 use model::Hardware;
-use model::HostSettings;
 use model::RadioSettings;
 use model::Settings;
 use model::Timer;
@@ -112,7 +112,7 @@ fn static_in_use(r: RadioSettings) -> bool
     }
     let f = r.hardware;
     let public = f.publicAddress;
-    octets::all_zero(&public)
+    either(octets::all_zero(&public), !r.bredr)
 }
 
 // Current_Settings
@@ -129,14 +129,13 @@ pub fn current_settings(m: Settings) -> u64
     ensures { λ r. ⌜ r ≡ State.currentSettings m ⌝ }
 {
     let r = m.radio;
-    let f = r.hardware;
     let h = m.host;
     let t = h.timer;
     let powered = flag_of(r.powered, 1);
     let connectable = flag_of(r.connectable, 2);
     let discoverable = flag_of(t.discoverable, 8);
     let bondable = flag_of(h.bondable, 16);
-    let bredr = flag_of(bredr_supported(f), 128);
+    let bredr = flag_of(r.bredr, 128);
     let low_energy = flag_of(r.lowEnergy, 512);
     let own = flag_of(static_in_use(r), 32768);
     powered + connectable + discoverable + bondable + bredr + low_energy + own
@@ -191,6 +190,9 @@ pub fn decide_discoverable(r: RadioSettings, ps: &[u8]) -> Decision
         if both(v != 0, !r.connectable) {
             return Decision::Reject(statuses::REJECTED);
         }
+        if both(v != 0, !r.bredr) {
+            return Decision::Reject(statuses::REJECTED);
+        }
         if r.powered {
             return Decision::Wait;
         }
@@ -227,10 +229,45 @@ pub fn decide_low_energy(r: RadioSettings, ps: &[u8]) -> Decision
         if both(v != 1, !bredr_supported(f)) {
             return Decision::Reject(statuses::REJECTED);
         }
+        if both(v != 1, !r.bredr) {
+            return Decision::Reject(statuses::REJECTED);
+        }
         if r.powered {
             return Decision::Wait;
         }
         return Decision::Act;
+    }
+    Decision::Refuse(statuses::NOT_SUPPORTED)
+}
+
+// 0x002A Set BR/EDR.
+pub fn decide_bredr(r: RadioSettings, ps: &[u8]) -> Decision
+    requires { ⌜ length (now ps) ≡ 1 ⌝ }
+    ensures { λ d. ⌜ d ≡ decision setBredr r (now (ps .entry)) ⌝ }
+{
+    let v = ps[0];
+    if 1 < v {
+        return Decision::Refuse(statuses::INVALID_PARAMETERS);
+    }
+    let f = r.hardware;
+    if bredr_supported(f) {
+        if le_supported(f) {
+            if both(v != 1, r.powered) {
+                return Decision::Reject(statuses::REJECTED);
+            }
+            let own = r.staticAddress;
+            if both(v == 1, !octets::all_zero(&own)) {
+                return Decision::Reject(statuses::REJECTED);
+            }
+            if !r.lowEnergy {
+                return Decision::Reject(statuses::REJECTED);
+            }
+            if r.powered {
+                return Decision::Wait;
+            }
+            return Decision::Act;
+        }
+        return Decision::Refuse(statuses::NOT_SUPPORTED);
     }
     Decision::Refuse(statuses::NOT_SUPPORTED)
 }
@@ -242,157 +279,14 @@ pub fn decide_static_address(r: RadioSettings, ps: &[u8]) -> Decision
 {
     if static_address_ok(ps) {
         if le_supported(r.hardware) {
-            if r.powered {
-                return Decision::Reject(statuses::REJECTED);
+            if !r.powered {
+                return Decision::Act;
             }
-            return Decision::Act;
+            return Decision::Reject(statuses::REJECTED);
         }
         return Decision::Refuse(statuses::NOT_SUPPORTED);
     }
     Decision::Refuse(statuses::INVALID_PARAMETERS)
-}
-
-// Effects
-
-// Not discoverable, and no timer.
-fn no_timer() -> Timer
-    ensures { λ r. ⌜ r ≡ State.noTimer ⌝ }
-{
-    Timer {
-        discoverable: false,
-        seconds: 0,
-    }
-}
-
-// The settings with another timer.
-pub fn with_timer(m: Settings, t: Timer) -> Settings
-    ensures { λ r. ⌜ r ≡ settingsTimer m t ⌝ }
-{
-    let r = m.radio;
-    let h = m.host;
-    Settings {
-        radio: r,
-        host: HostSettings {
-            timer: t,
-            bondable: h.bondable,
-        },
-    }
-}
-
-// The settings with bondable on or off.
-pub fn with_bondable(m: Settings, b: bool) -> Settings
-    ensures { λ r. ⌜ r ≡ settingsBondable m b ⌝ }
-{
-    let r = m.radio;
-    let h = m.host;
-    let t = h.timer;
-    Settings {
-        radio: r,
-        host: HostSettings {
-            timer: t,
-            bondable: b,
-        },
-    }
-}
-
-// What Set Powered makes of the settings: with power goes a discoverable that a timer limits.
-pub fn effect_powered(m: Settings, ps: &[u8]) -> Settings
-    requires { ⌜ length (now ps) ≡ 1 ⌝ }
-    ensures { λ d. ⌜ d ≡ settingsEffect setPowered m (now (ps .entry)) ⌝ }
-{
-    let on = ps[0] == 1;
-    let r = m.radio;
-    let f = r.hardware;
-    let own = r.staticAddress;
-    let h = m.host;
-    let t = h.timer;
-    let radio = RadioSettings {
-        hardware: f,
-        powered: on,
-        connectable: r.connectable,
-        lowEnergy: r.lowEnergy,
-        staticAddress: own,
-    };
-    let d = Settings { radio, host: h };
-    if both(!on, t.seconds != 0) {
-        return with_timer(d, no_timer());
-    }
-    d
-}
-
-// What Set Discoverable makes of the settings: the same for 1 and 2; without a timeout no timer runs.
-pub fn effect_discoverable(m: Settings, ps: &[u8]) -> Settings
-    requires { ⌜ length (now ps) ≡ 3 ⌝ }
-    ensures { λ d. ⌜ d ≡ settingsEffect setDiscoverable m (now (ps .entry)) ⌝ }
-{
-    let t = Timer {
-        discoverable: ps[0] != 0,
-        seconds: octets::u16_at(ps, 1) as u16,
-    };
-    with_timer(m, t)
-}
-
-// What Set Connectable makes of the settings: when it goes off, discoverable and the timer go too.
-pub fn effect_connectable(m: Settings, ps: &[u8]) -> Settings
-    requires { ⌜ length (now ps) ≡ 1 ⌝ }
-    ensures { λ d. ⌜ d ≡ settingsEffect setConnectable m (now (ps .entry)) ⌝ }
-{
-    let on = ps[0] == 1;
-    let r = m.radio;
-    let f = r.hardware;
-    let own = r.staticAddress;
-    let h = m.host;
-    let radio = RadioSettings {
-        hardware: f,
-        powered: r.powered,
-        connectable: on,
-        lowEnergy: r.lowEnergy,
-        staticAddress: own,
-    };
-    let d = Settings { radio, host: h };
-    if on {
-        return d;
-    }
-    with_timer(d, no_timer())
-}
-
-// What Set Low Energy makes of the settings.
-pub fn effect_low_energy(m: Settings, ps: &[u8]) -> Settings
-    requires { ⌜ length (now ps) ≡ 1 ⌝ }
-    ensures { λ d. ⌜ d ≡ settingsEffect setLowEnergy m (now (ps .entry)) ⌝ }
-{
-    let on = ps[0] == 1;
-    let r = m.radio;
-    let f = r.hardware;
-    let own = r.staticAddress;
-    let h = m.host;
-    let radio = RadioSettings {
-        hardware: f,
-        powered: r.powered,
-        connectable: r.connectable,
-        lowEnergy: on,
-        staticAddress: own,
-    };
-    Settings { radio, host: h }
-}
-
-// What Set Static Address makes of the settings.
-pub fn effect_static_address(m: Settings, ps: &[u8]) -> Settings
-    requires { ⌜ length (now ps) ≡ 6 ⌝ }
-    ensures { λ d. ⌜ d ≡ settingsEffect setStaticAddress m (now (ps .entry)) ⌝ }
-{
-    let own = octets::six(ps, 0);
-    let r = m.radio;
-    let f = r.hardware;
-    let h = m.host;
-    let radio = RadioSettings {
-        hardware: f,
-        powered: r.powered,
-        connectable: r.connectable,
-        lowEnergy: r.lowEnergy,
-        staticAddress: own,
-    };
-    Settings { radio, host: h }
 }
 
 // The clock
@@ -416,7 +310,7 @@ pub fn countdown(t: Timer, step: u32) -> Timer
     ensures { λ r. ⌜ r ≡ Hub.countdown step t ⌝ }
 {
     if ends(t, step) {
-        return no_timer();
+        return effects::no_timer();
     }
     if t.seconds == 0 {
         return t;
@@ -446,16 +340,20 @@ pub fn hardware_ok(f: Hardware) -> bool
     false
 }
 
-// Whether hardware and static address are valid, and Low Energy is on if it is all there is; where it is not supported it is off, with no static address.
+// Whether hardware and static address are valid, BR/EDR is on only where it is supported, and it or Low Energy is on; where Low Energy is not supported it is
+// off, with no static address.
 pub fn radio_ok(r: RadioSettings) -> bool
     ensures { λ q. ⌜ q ≡ radioOk r ⌝ }
 {
     let f = r.hardware;
     let own = r.staticAddress;
     if hardware_ok(f) {
-        if either(bredr_supported(f), r.lowEnergy) {
-            if either(le_supported(f), both(!r.lowEnergy, octets::all_zero(&own))) {
-                return static_address_ok(&own);
+        if either(!r.bredr, bredr_supported(f)) {
+            if either(r.bredr, r.lowEnergy) {
+                if either(le_supported(f), both(!r.lowEnergy, octets::all_zero(&own))) {
+                    return static_address_ok(&own);
+                }
+                return false;
             }
             return false;
         }
@@ -464,14 +362,21 @@ pub fn radio_ok(r: RadioSettings) -> bool
     false
 }
 
-// Whether discoverable has connectable, a timer has power and discoverable, and power has an address.
+// Whether BR/EDR is on where it is supported.
+pub fn bredr_as_supported(r: RadioSettings) -> bool
+    ensures { λ q. ⌜ q ≡ bredrAsSupported r ⌝ }
+{
+    either(r.bredr, !bredr_supported(r.hardware))
+}
+
+// Whether discoverable has connectable and BR/EDR, a timer has power and discoverable, and power has an address.
 pub fn settings_fit(m: Settings) -> bool
     ensures { λ q. ⌜ q ≡ settingsOk m ⌝ }
 {
     let r = m.radio;
     let h = m.host;
     let t = h.timer;
-    if either(!t.discoverable, r.connectable) {
+    if either(!t.discoverable, both(r.connectable, r.bredr)) {
         if either(t.seconds == 0, both(r.powered, t.discoverable)) {
             return either(!r.powered, addressed(r));
         }

@@ -19,7 +19,8 @@ use Rattle.model.specs.Advertising.{advertisingRemoved}
 use Rattle.model.specs.State.{Controller, currentSettings, settingsOf, withHost, withBondable}
 use Rattle.model.specs.Reasons.{statusOf, firstOf}
 use Rattle.model.specs.declared.Reason.the-variants.{ValueAbove1}
-use Rattle.model.specs.Rules.{refuse, done, RadioRule, on, newSettings, setPowered, setDiscoverable, setConnectable, setLowEnergy, setStaticAddress, act}
+use Rattle.model.specs.Rules.{refuse, done, RadioRule, on, newSettings, setPowered, setDiscoverable, setConnectable, setLowEnergy, setBredr}
+use Rattle.model.specs.Rules.{setStaticAddress, act}
 use Rattle.model.specs.Rules.{unless}
 use Rattle.model.specs.Immediate.{setBondable, sized}
 use Rattle.model.specs.Hub.{withOpen}
@@ -238,6 +239,11 @@ connectable-size = refl
 pub low-energy-size : 1 ≡ setLowEnergy .size
 unfolding setLowEnergy
 low-energy-size = refl
+
+-- Set BR/EDR too
+pub bredr-size : 1 ≡ setBredr .size
+unfolding setBredr
+bredr-size = refl
 
 -- Set Static Address takes six, the address
 pub static-address-size : 6 ≡ setStaticAddress .size

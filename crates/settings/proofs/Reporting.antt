@@ -18,7 +18,7 @@ use Rattle.model.specs.Octets.{Octets, u16, le32, commandComplete, commandStatu
 use Rattle.model.specs.Advertising.{advertisingRemoved}
 use Rattle.model.specs.State.{Controller, Hub, OpenCommand, PlainHub, controllerAt, currentSettings, settingsOf}
 use Rattle.model.specs.Reasons.{passes}
-use Rattle.model.specs.Rules.{Rule, general, immediate, radio, ImmediateRule, RadioRule, newSettings, setLowEnergy, setStaticAddress}
+use Rattle.model.specs.Rules.{Rule, general, immediate, radio, ImmediateRule, RadioRule, newSettings, setBredr, setStaticAddress}
 use Rattle.model.specs.Commands.{Row, rows, find, rule}
 use Rattle.model.specs.Hub.{badArgument, keep, withOpen, answerOf, octetsOf, stateOf, acted, finish, finishBy, starts, startsBy, reportOut}
 use Rattle.model.specs.WellFormed.{controllerOk, openOk}
@@ -38,9 +38,9 @@ use Rattle.replies.proofs.Laws.{gives-written}
 use Rattle.rules.specs.Effects.{settingsEffect}
 use Rattle.outcomes.specs.Outcomes.{ended, reported}
 use Rattle.outcomes.proofs.Endings.{ends-silent}
-use Rattle.settings.specs.Opens.{Opens, opens-powered, opens-discoverable, opens-connectable, opens-low-energy, Makes}
+use Rattle.settings.specs.Opens.{Opens, opens-powered, opens-discoverable, opens-connectable, opens-low-energy, opens-bredr, Makes}
 use Rattle.settings.specs.Turns.{actedController, actedReply, scheduleOf}
-use Rattle.settings.proofs.Turns.{Acts, acted-short, powered-acts, discoverable-acts, connectable-acts, low-energy-acts}
+use Rattle.settings.proofs.Turns.{Acts, acted-short, powered-acts, discoverable-acts, connectable-acts, low-energy-acts, bredr-acts}
 use Rattle.settings.proofs.Bridge.{acted-is}
 use Rattle.model.specs.Proof.Room.{length-status}
 
@@ -52,7 +52,7 @@ pub record Opened (code : ℕ) (x : Rule) : Type 0 where
   pub kind : x ≡ radio by
   pub opens : Opens code by
 
--- what is asked of each row: if its command would be started, it is one of the four
+-- what is asked of each row: if its command would be started, it is one of the five
 abbrev Held : ℕ → Rule → Type 0
 Held code x = (r : RadioSettings) (ps : Octets) → startsBy r ps (some x) ≡ true → Opened code x
 
@@ -66,7 +66,7 @@ held-immediate : (code : ℕ) (q : ImmediateRule) → Held code (immediate q)
 unfolding startsBy
 held-immediate code q r ps e = no-way (sym e)
 
--- the four are as asked, whatever their parameters
+-- the five are as asked, whatever their parameters
 held-radio : (code : ℕ) (u : RadioRule) → Opens code u → Held code (radio u)
 held-radio code u o r ps e = record { by = u; kind = refl; opens = o }
 
@@ -122,12 +122,12 @@ all-held = (
                                 (
                                   held-immediate _ _,
                                   (
-                                    held-static,
+                                    held-radio _ _ opens-bredr,
                                     (
-                                      held-immediate _ _,
+                                      held-static,
                                       (
                                         held-immediate _ _,
-                                        (held-immediate _ _, (held-immediate _ _, (held-immediate _ _, tt))),
+                                        (held-immediate _ _, (held-immediate _ _, (held-immediate _ _, (held-immediate _ _, tt)))),
                                       ),
                                     ),
                                   ),
@@ -166,7 +166,7 @@ pub record Waiting (code : ℕ) : Type 0 where
   pub known : rule code ≡ some (radio by)
   pub opens : Opens code by
 
--- a code whose command would be started has the rule of one of the four
+-- a code whose command would be started has the rule of one of the five
 waiting-by : (r : RadioSettings) (code : ℕ) (ps : Octets) (x : Option Rule) → rule code ≡ x → startsBy r ps x ≡ true → Waiting code
 unfolding startsBy rule
 waiting-by r code ps none e s = no-way (sym s)
@@ -174,7 +174,7 @@ waiting-by r code ps (some x) e s =
     let h : Opened code x = found code rows x all-held e r ps s in
     record { by = h .by; known = e ∙ ap {B = Option Rule} (λ y. some y) (h .kind); opens = h .opens }
 
--- a command under way is one of the four
+-- a command under way is one of the five
 waiting : (s : Octets) (i : ℕ) → Ready s i → (o : OpenCommand) → openAt s i ≡ some o → Waiting (o .code)
 unfolding openOk starts
 waiting s i g o e =
@@ -187,45 +187,42 @@ opens-acts code u c ps e opens-powered = powered-acts c ps e
 opens-acts code u c ps e opens-discoverable = discoverable-acts c ps e
 opens-acts code u c ps e opens-connectable = connectable-acts c ps e
 opens-acts code u c ps e opens-low-energy = low-energy-acts c ps e
+opens-acts code u c ps e opens-bredr = bredr-acts c ps e
 
 -- 2. What it makes of the settings ----------------------------------------------------------------------------------------------------------------
 
--- one code has one rule
+-- the rule of each is the one that its code finds
+opens-rule : (code : ℕ) (u : RadioRule) → Opens code u → rule code ≡ some (radio u)
+unfolding rule find rows
+opens-rule code u opens-powered = refl
+opens-rule code u opens-discoverable = refl
+opens-rule code u opens-connectable = refl
+opens-rule code u opens-low-energy = refl
+opens-rule code u opens-bredr = refl
+
+-- so one code has one rule
 opens-one : (j k : ℕ) (u w : RadioRule) → Opens j u → Opens k w → j ≡ k → w ≡ u
-opens-one j k u w opens-powered opens-powered e = refl
-opens-one j k u w opens-powered opens-discoverable e = absurd (omega arith)
-opens-one j k u w opens-powered opens-connectable e = absurd (omega arith)
-opens-one j k u w opens-powered opens-low-energy e = absurd (omega arith)
-opens-one j k u w opens-discoverable opens-powered e = absurd (omega arith)
-opens-one j k u w opens-discoverable opens-discoverable e = refl
-opens-one j k u w opens-discoverable opens-connectable e = absurd (omega arith)
-opens-one j k u w opens-discoverable opens-low-energy e = absurd (omega arith)
-opens-one j k u w opens-connectable opens-powered e = absurd (omega arith)
-opens-one j k u w opens-connectable opens-discoverable e = absurd (omega arith)
-opens-one j k u w opens-connectable opens-connectable e = refl
-opens-one j k u w opens-connectable opens-low-energy e = absurd (omega arith)
-opens-one j k u w opens-low-energy opens-powered e = absurd (omega arith)
-opens-one j k u w opens-low-energy opens-discoverable e = absurd (omega arith)
-opens-one j k u w opens-low-energy opens-connectable e = absurd (omega arith)
-opens-one j k u w opens-low-energy opens-low-energy e = refl
+opens-one j k u w o p e =
+    let f : _≡_ {A = Option Rule} (some (radio w)) (some (radio u)) = sym (opens-rule k w p) ∙ ap rule (sym e) ∙ opens-rule j u o in cc
 
 -- the effect of the rule of one of the codes, on parameters lent from the state
 pub makes-by : (code k : ℕ) (s : Octets) (at n : ℕ) (old new : Settings) (u : RadioRule) (ps : Octets) → Opens k u → code ≡ k → n ≡ u .size → ps ≡ part s at n
     → new ≡ settingsEffect u old ps → Makes code s at old new
 makes-by code k s at n old new u ps o e z l m w p = rw (opens-one k code u w o p (sym e)) (m ∙ rw (l, z))
 
--- the last of the four codes
+-- the last of the five codes
 pub makes-last : (code : ℕ) (s : Octets) (at n : ℕ) (old new : Settings) (ps : Octets) → (code ≡ Codes.setPowered → ⊥)
-    → (code ≡ Codes.setDiscoverable → ⊥) → (code ≡ Codes.setConnectable → ⊥) → n ≡ setLowEnergy .size
-    → ps ≡ part s at n → new ≡ settingsEffect setLowEnergy old ps → Makes code s at old new
-makes-last code s at n old new ps a b d z l m w p = go code w p a b d
+    → (code ≡ Codes.setDiscoverable → ⊥) → (code ≡ Codes.setConnectable → ⊥) → (code ≡ Codes.setLowEnergy → ⊥) → n ≡ setBredr .size
+    → ps ≡ part s at n → new ≡ settingsEffect setBredr old ps → Makes code s at old new
+makes-last code s at n old new ps a b d e z l m w p = go code w p a b d e
   where
     go : (j : ℕ) (v : RadioRule) → Opens j v → (j ≡ Codes.setPowered → ⊥) → (j ≡ Codes.setDiscoverable → ⊥) → (j ≡ Codes.setConnectable → ⊥)
-        → new ≡ settingsEffect v old (part s at (v .size))
-    go j v opens-powered x y q = absurd (x refl)
-    go j v opens-discoverable x y q = absurd (y refl)
-    go j v opens-connectable x y q = absurd (q refl)
-    go j v opens-low-energy x y q = m ∙ rw (l, z)
+        → (j ≡ Codes.setLowEnergy → ⊥) → new ≡ settingsEffect v old (part s at (v .size))
+    go j v opens-powered x y q r = absurd (x refl)
+    go j v opens-discoverable x y q r = absurd (y refl)
+    go j v opens-connectable x y q r = absurd (q refl)
+    go j v opens-low-energy x y q r = absurd (r refl)
+    go j v opens-bredr x y q r = m ∙ rw (l, z)
 
 -- 3. The report -------------------------------------------------------------------------------------------------------------------------------------
 

@@ -15,8 +15,8 @@ use Rattle.model.specs.Octets.{Octets, allZero}
 use Rattle.model.specs.Advertising.{advertisingRemoved, durationOf, firstPresent, following, instances, lasting, noSchedule, passedOn}
 use Rattle.model.specs.Advertising.{poweredOff, present, removedOf, repowered, rescheduled, turnTo, valueOf}
 use Rattle.model.specs.State.{Controller, currentSettings, settingsOf, withHost, withSchedule, withAdvertising, withPowered, withLowEnergy, withConnectable}
-use Rattle.model.specs.State.{withStaticAddress}
-use Rattle.model.specs.Rules.{RadioRule, on, sameBool, setPowered, setDiscoverable, setConnectable, setLowEnergy, setStaticAddress}
+use Rattle.model.specs.State.{withBredr, withStaticAddress}
+use Rattle.model.specs.Rules.{RadioRule, on, sameBool, setPowered, setDiscoverable, setConnectable, setLowEnergy, setBredr, setStaticAddress}
 use Rattle.model.specs.WellFormed.{controllerOk, scheduleOk, timesFit, timesOk, turnOk}
 use Rattle.model.specs.Proof.Tests.{and-true, equal, no-way, not-false, not-true}
 use Rattle.model.specs.Proof.Schedule.{schedule-fit, off-while-off, times-many}
@@ -24,8 +24,8 @@ use Rattle.model.specs.Proof.Advertising.{advertising-fit, none-removed, resche
 use Rattle.model.specs.Proof.Parts.{controller-fit}
 use Rattle.rules.specs.Effects as Effects
 use Rattle.rules.specs.Effects.{withSettings, withTurns, controllerWith, settingsEffect, turnsEffect}
-use Rattle.rules.proofs.Ties.{OnlySettings, powered-only, discoverable-only, connectable-only, low-energy-only, static-address-only}
-use Rattle.rules.proofs.Ties.{powered-turns, discoverable-turns, connectable-turns, low-energy-turns, static-address-turns}
+use Rattle.rules.proofs.Ties.{OnlySettings, powered-only, discoverable-only, connectable-only, low-energy-only, bredr-only, static-address-only}
+use Rattle.rules.proofs.Ties.{powered-turns, discoverable-turns, connectable-turns, low-energy-turns, bredr-turns, static-address-turns}
 use Rattle.replies.specs.Frames.{settingsReply}
 use Rattle.replies.proofs.Laws.{settings-short, then}
 use Rattle.replies.proofs.Advertising.{removed-most}
@@ -159,6 +159,13 @@ connectable-turned c ps e =
     connectable-turns (settingsOf c) (c .host .advertising .schedule) ps
     ∙ sym (turns-stay (c .radio) (withConnectable (c .radio) (on ps)) (c .host .advertising .schedule) (turns-fine c e) refl refl)
 
+-- Set BR/EDR
+bredr-turned : (c : Controller) (ps : Octets) → controllerOk c ≡ true → Turned setBredr c ps
+unfolding settingsEffect settingsOf Effects.controllerOf controllerWith setBredr withBredr
+bredr-turned c ps e =
+    bredr-turns (settingsOf c) (c .host .advertising .schedule) ps
+    ∙ sym (turns-stay (c .radio) (withBredr (c .radio) (on ps)) (c .host .advertising .schedule) (turns-fine c e) refl refl)
+
 -- Set Static Address
 static-address-turned : (c : Controller) (ps : Octets) → controllerOk c ≡ true → Turned setStaticAddress c ps
 unfolding settingsEffect settingsOf Effects.controllerOf controllerWith setStaticAddress withStaticAddress
@@ -193,6 +200,10 @@ connectable-acts c ps e = acts setConnectable c ps (connectable-only c ps e) (co
 -- Set Low Energy
 pub low-energy-acts : (c : Controller) (ps : Octets) → controllerOk c ≡ true → Acts setLowEnergy c ps
 low-energy-acts c ps e = acts setLowEnergy c ps (low-energy-only c ps e) (low-energy-turned c ps e)
+
+-- Set BR/EDR
+pub bredr-acts : (c : Controller) (ps : Octets) → controllerOk c ≡ true → Acts setBredr c ps
+bredr-acts c ps e = acts setBredr c ps (bredr-only c ps e) (bredr-turned c ps e)
 
 -- Set Static Address
 pub static-address-acts : (c : Controller) (ps : Octets) → controllerOk c ≡ true → Acts setStaticAddress c ps

@@ -5,7 +5,7 @@ use Prim.Native.Nat.{ℕ}
 use Rattle.model.specs.Codes as Codes
 use Rattle.model.specs.declared.Settings.{Settings}
 use Rattle.model.specs.Octets.{Octets}
-use Rattle.model.specs.Rules.{RadioRule, setPowered, setDiscoverable, setConnectable, setLowEnergy}
+use Rattle.model.specs.Rules.{RadioRule, setPowered, setDiscoverable, setConnectable, setLowEnergy, setBredr}
 use Rattle.octets.specs.Parts.{part}
 use Rattle.rules.specs.Effects.{settingsEffect}
 
@@ -15,6 +15,7 @@ pub data Opens : ℕ → RadioRule → Type 0 where
   opens-discoverable : Opens Codes.setDiscoverable setDiscoverable
   opens-connectable : Opens Codes.setConnectable setConnectable
   opens-low-energy : Opens Codes.setLowEnergy setLowEnergy
+  opens-bredr : Opens Codes.setBredr setBredr
 
 -- `new` is what such a command, with its parameters at a place of s, makes of the settings `old`
 abbrev pub Makes : ℕ → Octets → ℕ → Settings → Settings → Type 0

@@ -7,7 +7,7 @@ ghost use Rattle.model.specs.Codes as Codes;
 ghost use Rattle.model.specs.Lengths as Lengths;
 ghost use Rattle.model.specs.Octets.{u16};
 ghost use Rattle.model.specs.State.{currentSettings, settingsOf};
-ghost use Rattle.model.specs.Rules.{sameBool, setConnectable, setDiscoverable, setLowEnergy, setPowered, setStaticAddress};
+ghost use Rattle.model.specs.Rules.{sameBool, setBredr, setConnectable, setDiscoverable, setLowEnergy, setPowered, setStaticAddress};
 ghost use Rattle.model.specs.Immediate.{setBondable};
 ghost use Rattle.model.specs.Layout.{decode, encode};
 ghost use Rattle.model.specs.Meanings.{stateOk};
@@ -164,7 +164,7 @@ pub fn set_bondable(state: &mut [u8], index: u64, ps: &[u8], reply: &mut [u8]) -
         );
     }
     let old = layout::settings_at(state, index);
-    let new = rules::with_bondable(old, v == 1);
+    let new = rules::effects::with_bondable(old, v == 1);
     apply_settings(state, index, codes::SET_BONDABLE, reply, old, new)
 }
 
@@ -201,7 +201,7 @@ fn unless_busy(
     }
 }
 
-// The end that the five share, once their length is right: refused before Busy, or as above.
+// The end that the six share, once their length is right: refused before Busy, or as above.
 fn carry_out(
     state: &mut [u8],
     index: u64,
@@ -244,7 +244,7 @@ pub fn set_powered(state: &mut [u8], index: u64, ps: &[u8], reply: &mut [u8]) ->
     }
     let old = layout::settings_at(state, index);
     let d = rules::decide_powered(old.radio, ps);
-    let new = rules::effect_powered(old, ps);
+    let new = rules::effects::effect_powered(old, ps);
     carry_out(state, index, codes::SET_POWERED, ps, reply, d, old, new)
 }
 
@@ -266,7 +266,7 @@ pub fn set_discoverable(state: &mut [u8], index: u64, ps: &[u8], reply: &mut [u8
     }
     let old = layout::settings_at(state, index);
     let d = rules::decide_discoverable(old.radio, ps);
-    let new = rules::effect_discoverable(old, ps);
+    let new = rules::effects::effect_discoverable(old, ps);
     carry_out(
         state,
         index,
@@ -297,7 +297,7 @@ pub fn set_connectable(state: &mut [u8], index: u64, ps: &[u8], reply: &mut [u8]
     }
     let old = layout::settings_at(state, index);
     let d = rules::decide_connectable(old.radio, ps);
-    let new = rules::effect_connectable(old, ps);
+    let new = rules::effects::effect_connectable(old, ps);
     carry_out(state, index, codes::SET_CONNECTABLE, ps, reply, d, old, new)
 }
 
@@ -319,8 +319,25 @@ pub fn set_low_energy(state: &mut [u8], index: u64, ps: &[u8], reply: &mut [u8])
     }
     let old = layout::settings_at(state, index);
     let d = rules::decide_low_energy(old.radio, ps);
-    let new = rules::effect_low_energy(old, ps);
+    let new = rules::effects::effect_low_energy(old, ps);
     carry_out(state, index, codes::SET_LOW_ENERGY, ps, reply, d, old, new)
+}
+
+// 0x002A Set BR/EDR.
+pub fn set_bredr(state: &mut [u8], index: u64, ps: &[u8], reply: &mut [u8]) -> Answer
+    requires { ⌜ Ready (now state) index × (Lengths.replyBuffer ≤ length (now reply)) ⌝ }
+    ensures { λ r. ⌜
+        Gives (radioCommand (now (state .entry)) index Codes.setBredr (now (ps .entry)) setBredr) r (now (reply .entry)) (now (reply .exit))
+        (now (state .exit))
+        ⌝ }
+{
+    if ps.len() != 1 {
+        return replies::refuse(reply, index, codes::SET_BREDR, statuses::INVALID_PARAMETERS);
+    }
+    let old = layout::settings_at(state, index);
+    let d = rules::decide_bredr(old.radio, ps);
+    let new = rules::effects::effect_bredr(old, ps);
+    carry_out(state, index, codes::SET_BREDR, ps, reply, d, old, new)
 }
 
 // 0x002B Set Static Address.
@@ -341,7 +358,7 @@ pub fn set_static_address(state: &mut [u8], index: u64, ps: &[u8], reply: &mut [
     }
     let old = layout::settings_at(state, index);
     let d = rules::decide_static_address(old.radio, ps);
-    let new = rules::effect_static_address(old, ps);
+    let new = rules::effects::effect_static_address(old, ps);
     carry_out(
         state,
         index,
@@ -362,15 +379,18 @@ fn acted_settings(state: &[u8], at: usize, code: u64, old: Settings) -> Settings
     ensures { λ new. ⌜ Makes code (now (state .entry)) at old new ⌝ }
 {
     if code == codes::SET_POWERED {
-        return rules::effect_powered(old, &state[at..at + 1]);
+        return rules::effects::effect_powered(old, &state[at..at + 1]);
     }
     if code == codes::SET_DISCOVERABLE {
-        return rules::effect_discoverable(old, &state[at..at + 3]);
+        return rules::effects::effect_discoverable(old, &state[at..at + 3]);
     }
     if code == codes::SET_CONNECTABLE {
-        return rules::effect_connectable(old, &state[at..at + 1]);
+        return rules::effects::effect_connectable(old, &state[at..at + 1]);
     }
-    rules::effect_low_energy(old, &state[at..at + 1])
+    if code == codes::SET_LOW_ENERGY {
+        return rules::effects::effect_low_energy(old, &state[at..at + 1]);
+    }
+    rules::effects::effect_bredr(old, &state[at..at + 1])
 }
 
 // The command under way acts, on the settings as they are now, and is under way no more.

@@ -11,8 +11,9 @@ use Rattle.model.specs.declared.Place.{Place}
 use Rattle.model.specs.declared.Place.the-variants.{Nowhere, AtOctet, InRecord, Records}
 use Rattle.model.specs.Reasons.{Check}
 use Rattle.model.specs.Tables.{TableRule, blockedRule, deviceRule, identityKeyRule, leAddressChecks, linkKeyRule, longTermKeyRule, uuidRule}
-use Rattle.model.specs.Rules.{ImmediateRule, RadioRule, setConnectable, setDiscoverable, setLowEnergy, setPowered, setStaticAddress}
-use Rattle.model.specs.Immediate.{addAdvertising, addDevice, addUuid, advertisingChecks, blockDevice, readInformation, removeAdvertising, removeDevice, removeUuid}
+use Rattle.model.specs.Rules.{ImmediateRule, RadioRule, setBredr, setConnectable, setDiscoverable, setLowEnergy, setPowered, setStaticAddress}
+use Rattle.model.specs.Immediate.{addAdvertising, addDevice, addUuid, advertisingChecks, blockDevice, readInformation, removeAdvertising}
+use Rattle.model.specs.Immediate.{removeDevice, removeUuid}
 use Rattle.model.specs.Immediate.{setBondable, setLocalName, unblockDevice, unpairDevice}
 
 -- from octet n on and below octet m the places ascend, and behind the first that is nowhere all are
@@ -37,10 +38,10 @@ Immediate m q = (c : Controller) (ps : Octets) → ascends 0 m true (q .checks c
 abbrev pub Record : TableRule → Type 0
 Record u = (r : Octets) → ascends 0 (u .size) true (u .checks r) ≡ true
 
--- the five settings commands
-pub settings-ascend : Radio setPowered × Radio setDiscoverable × Radio setConnectable × Radio setLowEnergy × Radio setStaticAddress
-unfolding ascends setPowered setDiscoverable setConnectable setLowEnergy setStaticAddress
-settings-ascend = (λ x ps. refl, λ x ps. refl, λ x ps. refl, λ x ps. refl, λ x ps. refl)
+-- the six settings commands that can be Busy
+pub settings-ascend : Radio setPowered × Radio setDiscoverable × Radio setConnectable × Radio setLowEnergy × Radio setBredr × Radio setStaticAddress
+unfolding ascends setPowered setDiscoverable setConnectable setLowEnergy setBredr setStaticAddress
+settings-ascend = (λ x ps. refl, λ x ps. refl, λ x ps. refl, λ x ps. refl, λ x ps. refl, λ x ps. refl)
 
 -- the records of the six tables
 pub records-ascend : Record uuidRule × Record linkKeyRule × Record longTermKeyRule × Record identityKeyRule × Record blockedRule × Record deviceRule

@@ -1,4 +1,4 @@
--- Examples of what is told, by computation: packets on two hubs, and the text of each.
+-- Examples of what is told, by computation: packets on a few hubs, and the text of each.
 use Prim.Native.Nat.{ℕ}
 use Prim.Native.String.{String}
 use mathlib.Core.Path.{_≡_, refl}
@@ -15,7 +15,7 @@ use Rattle.model.specs.Rules.{open-rules}
 use Rattle.model.specs.Immediate.{open-immediate}
 use Rattle.model.specs.Commands.{open-commands}
 use Rattle.model.specs.Image.{open-image}
-use Rattle.model.specs.Hub.{open-hub}
+use Rattle.model.specs.Hub.{open-hub, report}
 use Rattle.model.specs.Demand3.{open-demand3}
 use Rattle.model.specs.Examples.{dualHardware, emptyImage, hubAfter, plugDual, powerOn, to}
 use Rattle.why.specs.Findings.{open-findings, why}
@@ -33,6 +33,14 @@ busy = hubAfter (plugDual ∷ powerOn ∷ [])
 -- a packet to index 0
 unfoldable pub packet : ℕ → Octets → Octets
 packet code ps = le16 code ++ (0 ∷ 0 ∷ (le16 (length ps) ++ ps))
+
+-- the first with power, which the radio reported
+unfoldable pub powered : Hub
+powered = hubAfter (plugDual ∷ powerOn ∷ report 1024 0 0 ∷ [])
+
+-- the first connectable, then after a settings command that is done at once
+unfoldable pub changed : ℕ → Octets → Hub
+changed code ps = hubAfter (plugDual ∷ to (packet Codes.setConnectable (1 ∷ [])) ∷ to (packet code ps) ∷ [])
 
 -- a link key of a device, of a type
 unfoldable pub linkKey : ℕ → ℕ → Octets
@@ -72,6 +80,21 @@ tells =
     ∷ (busy, packet Codes.setDiscoverable (1 ∷ 0 ∷ 0 ∷ []), "Busy: another settings command is under way at this index")
     ∷ (plain, packet Codes.setDiscoverable (1 ∷ 0 ∷ 0 ∷ []), "Rejected: connectable is off")
     ∷ (plain, packet Codes.unblockDevice (1 ∷ 0 ∷ 0 ∷ 0 ∷ 0 ∷ 0 ∷ 0 ∷ []), "Invalid Parameters: the device is not blocked")
+    -- Set BR/EDR, and what it turned off (02, E5)
+    ∷ (plain, packet Codes.setBredr (0 ∷ []), "would be taken")
+    ∷ (plain, packet Codes.setBredr (2 ∷ []), "Invalid Parameters: the value is not 0 or 1, octet 6")
+    ∷ (busy, packet Codes.setBredr (0 ∷ []), "Busy: another settings command is under way at this index")
+    ∷ (powered, packet Codes.setBredr (0 ∷ []), "Rejected: BR/EDR cannot be turned off while power is on")
+    ∷ (powered, packet Codes.setBredr (1 ∷ []), "would be taken")
+    ∷ (
+      changed Codes.setStaticAddress (1 ∷ 0 ∷ 0 ∷ 0 ∷ 0 ∷ 0xC0 ∷ []),
+      packet Codes.setBredr (1 ∷ []),
+      "Rejected: BR/EDR cannot be turned on with a static address set",
+    )
+    ∷ (changed Codes.setLowEnergy (0 ∷ []), packet Codes.setBredr (0 ∷ []), "Rejected: Low Energy is off")
+    ∷ (changed Codes.setBredr (0 ∷ []), packet Codes.setDiscoverable (1 ∷ 0 ∷ 0 ∷ []), "Rejected: BR/EDR is off")
+    ∷ (changed Codes.setBredr (0 ∷ []), packet Codes.setDiscoverable (0 ∷ 0 ∷ 0 ∷ []), "would be taken")
+    ∷ (changed Codes.setBredr (0 ∷ []), packet Codes.setLowEnergy (0 ∷ []), "Rejected: BR/EDR is off")
     ∷ []
 
 -- each is told so
@@ -83,5 +106,5 @@ allTold (e ∷ es) = same (textOf (why (e .0) (e .1))) (spelled (e .2)) && allTo
 pub texts-hold : allTold tells ≡ true
 unfolding open-octets open-advertising open-state open-reasons open-tables open-rules open-immediate open-commands open-image open-hub
     open-demand3 open-findings open-spelling
-    open-wording dualHardware emptyImage hubAfter plugDual powerOn to plain busy packet linkKey tells allTold
+    open-wording dualHardware emptyImage hubAfter plugDual powerOn to plain busy powered changed packet linkKey tells allTold
 texts-hold = refl

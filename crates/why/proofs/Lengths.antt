@@ -19,7 +19,8 @@ use Rattle.model.specs.declared.Reason.the-variants.{AddressTypeAbove2, Address
 use Rattle.model.specs.declared.Reason.the-variants.{TimeoutWithValue0, NoTimeoutWithValue2, NameNotEnded, ShortNameNotEnded, UuidZero, DisconnectAbove1}
 use Rattle.model.specs.declared.Reason.the-variants.{ActionAbove2, ActionNot1ForBredr, InstanceNot1To5, AdvertisingFlags, AdvDataAbove31, ScanRspAbove31}
 use Rattle.model.specs.declared.Reason.the-variants.{BredrNotSupported, LeNotSupported, DiscoverableTimeoutUnpowered, Unpowered, NoAddressForPower}
-use Rattle.model.specs.declared.Reason.the-variants.{NotConnectable, LowEnergyNeeded, PoweredForStaticAddress, LowEnergyOff, AdvertisingTimeoutUnpowered}
+use Rattle.model.specs.declared.Reason.the-variants.{NotConnectable, BredrOff, LowEnergyNeeded, PoweredForBredrOff, StaticAddressForBredr}
+use Rattle.model.specs.declared.Reason.the-variants.{PoweredForStaticAddress, LowEnergyOff, AdvertisingTimeoutUnpowered}
 use Rattle.model.specs.declared.Reason.the-variants.{NoFreeSlot, UuidAbsent, NoKeyOfDevice, AlreadyBlocked, NotBlocked, DeviceAbsent, InstanceAbsent}
 use Rattle.why.specs.declared.Finding.{Finding}
 use Rattle.why.specs.declared.Finding.the-variants.{Taken, Busy, Wrong}
@@ -113,7 +114,10 @@ condition-short DiscoverableTimeoutUnpowered = lit≤ tt
 condition-short Unpowered = lit≤ tt
 condition-short NoAddressForPower = lit≤ tt
 condition-short NotConnectable = lit≤ tt
+condition-short BredrOff = lit≤ tt
 condition-short LowEnergyNeeded = lit≤ tt
+condition-short PoweredForBredrOff = lit≤ tt
+condition-short StaticAddressForBredr = lit≤ tt
 condition-short PoweredForStaticAddress = lit≤ tt
 condition-short LowEnergyOff = lit≤ tt
 condition-short AdvertisingTimeoutUnpowered = lit≤ tt

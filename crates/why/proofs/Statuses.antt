@@ -20,7 +20,8 @@ use Rattle.model.specs.declared.Reason.the-variants.{TimeoutWithValue0, NoTimeo
 use Rattle.model.specs.declared.Reason.the-variants.{DisconnectAbove1, ActionAbove2, ActionNot1ForBredr, InstanceNot1To5, AdvertisingFlags}
 use Rattle.model.specs.declared.Reason.the-variants.{AdvDataAbove31, ScanRspAbove31, BredrNotSupported, LeNotSupported}
 use Rattle.model.specs.declared.Reason.the-variants.{DiscoverableTimeoutUnpowered, Unpowered, NoAddressForPower, NotConnectable}
-use Rattle.model.specs.declared.Reason.the-variants.{LowEnergyNeeded, PoweredForStaticAddress, LowEnergyOff, AdvertisingTimeoutUnpowered}
+use Rattle.model.specs.declared.Reason.the-variants.{BredrOff, LowEnergyNeeded, PoweredForBredrOff, StaticAddressForBredr, PoweredForStaticAddress}
+use Rattle.model.specs.declared.Reason.the-variants.{LowEnergyOff, AdvertisingTimeoutUnpowered}
 use Rattle.model.specs.declared.Reason.the-variants.{NoFreeSlot, UuidAbsent, NoKeyOfDevice, AlreadyBlocked, NotBlocked, DeviceAbsent}
 use Rattle.model.specs.declared.Reason.the-variants.{InstanceAbsent}
 use Rattle.model.specs.Proof.Tests.{and-true, no-way, not-true}
@@ -83,7 +84,10 @@ status-refuses DiscoverableTimeoutUnpowered = refl
 status-refuses Unpowered = refl
 status-refuses NoAddressForPower = refl
 status-refuses NotConnectable = refl
+status-refuses BredrOff = refl
 status-refuses LowEnergyNeeded = refl
+status-refuses PoweredForBredrOff = refl
+status-refuses StaticAddressForBredr = refl
 status-refuses PoweredForStaticAddress = refl
 status-refuses LowEnergyOff = refl
 status-refuses AdvertisingTimeoutUnpowered = refl

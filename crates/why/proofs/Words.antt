@@ -14,7 +14,8 @@ use Rattle.model.specs.declared.Reason.the-variants.{TimeoutWithValue0, NoTimeo
 use Rattle.model.specs.declared.Reason.the-variants.{DisconnectAbove1, ActionAbove2, ActionNot1ForBredr, InstanceNot1To5, AdvertisingFlags}
 use Rattle.model.specs.declared.Reason.the-variants.{AdvDataAbove31, ScanRspAbove31, BredrNotSupported, LeNotSupported}
 use Rattle.model.specs.declared.Reason.the-variants.{DiscoverableTimeoutUnpowered, Unpowered, NoAddressForPower, NotConnectable}
-use Rattle.model.specs.declared.Reason.the-variants.{LowEnergyNeeded, PoweredForStaticAddress, LowEnergyOff, AdvertisingTimeoutUnpowered}
+use Rattle.model.specs.declared.Reason.the-variants.{BredrOff, LowEnergyNeeded, PoweredForBredrOff, StaticAddressForBredr, PoweredForStaticAddress}
+use Rattle.model.specs.declared.Reason.the-variants.{LowEnergyOff, AdvertisingTimeoutUnpowered}
 use Rattle.model.specs.declared.Reason.the-variants.{NoFreeSlot, UuidAbsent, NoKeyOfDevice, AlreadyBlocked, NotBlocked, DeviceAbsent}
 use Rattle.model.specs.declared.Reason.the-variants.{InstanceAbsent}
 use Rattle.model.specs.Tables.{distinct, open-tables}
@@ -28,9 +29,9 @@ reasons =
     ∷ KeySizeNot7To16 ∷ RecordRepeated ∷ AddressTypeNotBredr ∷ AddressTypeNotLe ∷ AddressTypeAbove2 ∷ AddressZero ∷ AddressNotStaticRandom
     ∷ AddressZeroNotBredr ∷ ValueAbove1 ∷ ValueAbove2 ∷ TimeoutWithValue0 ∷ NoTimeoutWithValue2 ∷ NameNotEnded ∷ ShortNameNotEnded ∷ UuidZero
     ∷ DisconnectAbove1 ∷ ActionAbove2 ∷ ActionNot1ForBredr ∷ InstanceNot1To5 ∷ AdvertisingFlags ∷ AdvDataAbove31 ∷ ScanRspAbove31
-    ∷ BredrNotSupported ∷ LeNotSupported ∷ DiscoverableTimeoutUnpowered ∷ Unpowered ∷ NoAddressForPower ∷ NotConnectable ∷ LowEnergyNeeded
-    ∷ PoweredForStaticAddress ∷ LowEnergyOff ∷ AdvertisingTimeoutUnpowered ∷ NoFreeSlot ∷ UuidAbsent ∷ NoKeyOfDevice ∷ AlreadyBlocked ∷ NotBlocked
-    ∷ DeviceAbsent ∷ InstanceAbsent ∷ []
+    ∷ BredrNotSupported ∷ LeNotSupported ∷ DiscoverableTimeoutUnpowered ∷ Unpowered ∷ NoAddressForPower ∷ NotConnectable ∷ BredrOff
+    ∷ LowEnergyNeeded ∷ PoweredForBredrOff ∷ StaticAddressForBredr ∷ PoweredForStaticAddress ∷ LowEnergyOff ∷ AdvertisingTimeoutUnpowered
+    ∷ NoFreeSlot ∷ UuidAbsent ∷ NoKeyOfDevice ∷ AlreadyBlocked ∷ NotBlocked ∷ DeviceAbsent ∷ InstanceAbsent ∷ []
 
 -- each condition has words of its own
 pub conditions-differ : distinct (map (λ (r : Reason). spelled (condition r)) reasons) ≡ true

@@ -19,7 +19,8 @@ use Rattle.model.specs.declared.Reason.the-variants.{TimeoutWithValue0, NoTimeo
 use Rattle.model.specs.declared.Reason.the-variants.{DisconnectAbove1, ActionAbove2, ActionNot1ForBredr, InstanceNot1To5, AdvertisingFlags}
 use Rattle.model.specs.declared.Reason.the-variants.{AdvDataAbove31, ScanRspAbove31, BredrNotSupported, LeNotSupported}
 use Rattle.model.specs.declared.Reason.the-variants.{DiscoverableTimeoutUnpowered, Unpowered, NoAddressForPower, NotConnectable}
-use Rattle.model.specs.declared.Reason.the-variants.{LowEnergyNeeded, PoweredForStaticAddress, LowEnergyOff, AdvertisingTimeoutUnpowered}
+use Rattle.model.specs.declared.Reason.the-variants.{BredrOff, LowEnergyNeeded, PoweredForBredrOff, StaticAddressForBredr, PoweredForStaticAddress}
+use Rattle.model.specs.declared.Reason.the-variants.{LowEnergyOff, AdvertisingTimeoutUnpowered}
 use Rattle.model.specs.declared.Reason.the-variants.{NoFreeSlot, UuidAbsent, NoKeyOfDevice, AlreadyBlocked, NotBlocked, DeviceAbsent}
 use Rattle.model.specs.declared.Reason.the-variants.{InstanceAbsent}
 use Rattle.why.specs.declared.Finding.{Finding}
@@ -89,7 +90,10 @@ condition DiscoverableTimeoutUnpowered = "a discoverable timeout needs power"
 condition Unpowered = "the controller is not powered"
 condition NoAddressForPower = "the controller has no public and no static address"
 condition NotConnectable = "connectable is off"
+condition BredrOff = "BR/EDR is off"
 condition LowEnergyNeeded = "without BR/EDR support Low Energy stays on"
+condition PoweredForBredrOff = "BR/EDR cannot be turned off while power is on"
+condition StaticAddressForBredr = "BR/EDR cannot be turned on with a static address set"
 condition PoweredForStaticAddress = "the static address cannot be set while power is on"
 condition LowEnergyOff = "Low Energy is off"
 condition AdvertisingTimeoutUnpowered = "an advertising timeout needs power"

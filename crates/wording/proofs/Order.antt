@@ -18,7 +18,8 @@ use Rattle.model.specs.declared.Reason.the-variants.{AddressTypeAbove2, Address
 use Rattle.model.specs.declared.Reason.the-variants.{TimeoutWithValue0, NoTimeoutWithValue2, NameNotEnded, ShortNameNotEnded, UuidZero, DisconnectAbove1}
 use Rattle.model.specs.declared.Reason.the-variants.{ActionAbove2, ActionNot1ForBredr, InstanceNot1To5, AdvertisingFlags, AdvDataAbove31, ScanRspAbove31}
 use Rattle.model.specs.declared.Reason.the-variants.{BredrNotSupported, LeNotSupported, DiscoverableTimeoutUnpowered, Unpowered, NoAddressForPower}
-use Rattle.model.specs.declared.Reason.the-variants.{NotConnectable, LowEnergyNeeded, PoweredForStaticAddress, LowEnergyOff, AdvertisingTimeoutUnpowered}
+use Rattle.model.specs.declared.Reason.the-variants.{NotConnectable, BredrOff, LowEnergyNeeded, PoweredForBredrOff, StaticAddressForBredr}
+use Rattle.model.specs.declared.Reason.the-variants.{PoweredForStaticAddress, LowEnergyOff, AdvertisingTimeoutUnpowered}
 use Rattle.model.specs.declared.Reason.the-variants.{NoFreeSlot, UuidAbsent, NoKeyOfDevice, AlreadyBlocked, NotBlocked, DeviceAbsent, InstanceAbsent}
 use Rattle.wording.specs.Order.{order}
 
@@ -62,7 +63,10 @@ order-tag DiscoverableTimeoutUnpowered = refl
 order-tag Unpowered = refl
 order-tag NoAddressForPower = refl
 order-tag NotConnectable = refl
+order-tag BredrOff = refl
 order-tag LowEnergyNeeded = refl
+order-tag PoweredForBredrOff = refl
+order-tag StaticAddressForBredr = refl
 order-tag PoweredForStaticAddress = refl
 order-tag LowEnergyOff = refl
 order-tag AdvertisingTimeoutUnpowered = refl
@@ -91,23 +95,23 @@ span a zero = []
 span a (suc n) = a ∷ span (suc a) n
 
 -- past the first arms
-pub past-first : (r : Reason) → OneOf (span 17 31) (tagOf the-type r) → 17 ≤ order r
-past-first r h = let b = one-holds (leb 17) (span 17 31) _ h refl in leb→le 17 (order r) (rw (← order-tag r, b) tt)
+pub past-first : (r : Reason) → OneOf (span 17 34) (tagOf the-type r) → 17 ≤ order r
+past-first r h = let b = one-holds (leb 17) (span 17 34) _ h refl in leb→le 17 (order r) (rw (← order-tag r, b) tt)
 
 -- not below, so above
-elsewhere : (t : ℕ) → 17 ≤ t → leb 31 t || ltb t 17 ≡ true → 31 ≤ t
-elsewhere t l h = go (leb 31 t) refl (rw (le-ltb t 17 l) at h)
+elsewhere : (t : ℕ) → 17 ≤ t → leb 36 t || ltb t 17 ≡ true → 36 ≤ t
+elsewhere t l h = go (leb 36 t) refl (rw (le-ltb t 17 l) at h)
   where
-    go : (b : Bool) → leb 31 t ≡ b → b || false ≡ true → 31 ≤ t
-    go true e f = leb→le 31 t (rw e tt)
+    go : (b : Bool) → leb 36 t ≡ b → b || false ≡ true → 36 ≤ t
+    go true e f = leb→le 36 t (rw e tt)
     go false e f = no-way (sym f)
 
 -- past the arms in the middle
-pub past-middle : (r : Reason) → 17 ≤ order r → OneOf (span 0 17 ++ span 31 17) (tagOf the-type r) → 31 ≤ order r
+pub past-middle : (r : Reason) → 17 ≤ order r → OneOf (span 0 17 ++ span 36 15) (tagOf the-type r) → 36 ≤ order r
 past-middle r l h =
-    let b = one-holds (λ x. leb 31 x || ltb x 17) (span 0 17 ++ span 31 17) _ h refl in
+    let b = one-holds (λ x. leb 36 x || ltb x 17) (span 0 17 ++ span 36 15) _ h refl in
     elsewhere (order r) l (rw (← order-tag r) b)
 
 -- past the last arms there is none
-pub past-last : {A : Type 0} (r : Reason) → 31 ≤ order r → OneOf (span 0 31) (tagOf the-type r) → A
-past-last r l h = let b = one-holds (λ x. ltb x 31) (span 0 31) _ h refl in let z = ltb→lt (order r) 31 (rw (← order-tag r, b) tt) in absurd (omega arith)
+pub past-last : {A : Type 0} (r : Reason) → 36 ≤ order r → OneOf (span 0 36) (tagOf the-type r) → A
+past-last r l h = let b = one-holds (λ x. ltb x 36) (span 0 36) _ h refl in let z = ltb→lt (order r) 36 (rw (← order-tag r, b) tt) in absurd (omega arith)

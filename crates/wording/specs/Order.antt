@@ -7,7 +7,8 @@ use Rattle.model.specs.declared.Reason.the-variants.{AddressTypeAbove2, Address
 use Rattle.model.specs.declared.Reason.the-variants.{TimeoutWithValue0, NoTimeoutWithValue2, NameNotEnded, ShortNameNotEnded, UuidZero, DisconnectAbove1}
 use Rattle.model.specs.declared.Reason.the-variants.{ActionAbove2, ActionNot1ForBredr, InstanceNot1To5, AdvertisingFlags, AdvDataAbove31, ScanRspAbove31}
 use Rattle.model.specs.declared.Reason.the-variants.{BredrNotSupported, LeNotSupported, DiscoverableTimeoutUnpowered, Unpowered, NoAddressForPower}
-use Rattle.model.specs.declared.Reason.the-variants.{NotConnectable, LowEnergyNeeded, PoweredForStaticAddress, LowEnergyOff, AdvertisingTimeoutUnpowered}
+use Rattle.model.specs.declared.Reason.the-variants.{NotConnectable, BredrOff, LowEnergyNeeded, PoweredForBredrOff, StaticAddressForBredr}
+use Rattle.model.specs.declared.Reason.the-variants.{PoweredForStaticAddress, LowEnergyOff, AdvertisingTimeoutUnpowered}
 use Rattle.model.specs.declared.Reason.the-variants.{NoFreeSlot, UuidAbsent, NoKeyOfDevice, AlreadyBlocked, NotBlocked, DeviceAbsent, InstanceAbsent}
 
 -- the place of a reason in the model's list
@@ -49,14 +50,17 @@ order DiscoverableTimeoutUnpowered = 33
 order Unpowered = 34
 order NoAddressForPower = 35
 order NotConnectable = 36
-order LowEnergyNeeded = 37
-order PoweredForStaticAddress = 38
-order LowEnergyOff = 39
-order AdvertisingTimeoutUnpowered = 40
-order NoFreeSlot = 41
-order UuidAbsent = 42
-order NoKeyOfDevice = 43
-order AlreadyBlocked = 44
-order NotBlocked = 45
-order DeviceAbsent = 46
-order InstanceAbsent = 47
+order BredrOff = 37
+order LowEnergyNeeded = 38
+order PoweredForBredrOff = 39
+order StaticAddressForBredr = 40
+order PoweredForStaticAddress = 41
+order LowEnergyOff = 42
+order AdvertisingTimeoutUnpowered = 43
+order NoFreeSlot = 44
+order UuidAbsent = 45
+order NoKeyOfDevice = 46
+order AlreadyBlocked = 47
+order NotBlocked = 48
+order DeviceAbsent = 49
+order InstanceAbsent = 50

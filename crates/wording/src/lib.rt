@@ -55,7 +55,10 @@ fn reason_status(reason: Reason) -> u8
         Reason::Unpowered => statuses::NOT_POWERED,
         Reason::NoAddressForPower => statuses::REJECTED,
         Reason::NotConnectable => statuses::REJECTED,
+        Reason::BredrOff => statuses::REJECTED,
         Reason::LowEnergyNeeded => statuses::REJECTED,
+        Reason::PoweredForBredrOff => statuses::REJECTED,
+        Reason::StaticAddressForBredr => statuses::REJECTED,
         Reason::PoweredForStaticAddress => statuses::REJECTED,
         Reason::LowEnergyOff => statuses::REJECTED,
         Reason::AdvertisingTimeoutUnpowered => statuses::REJECTED,
@@ -127,27 +130,25 @@ fn put_status(text: &mut [u8], status: u8) -> usize
     0
 }
 
-// The condition of a reason behind those of values, from lack of support on, in words, written from the place `at` on. Returns where it ends.
-fn put_later_condition(text: &mut [u8], at: usize, reason: Reason) -> usize
-    requires { ⌜ (at + 70 ≤ length (now text)) × (31 ≤ order reason) ⌝ }
+// The condition of a reason of the last third, in words, written from the place `at` on. Returns where it ends.
+fn put_last_condition(text: &mut [u8], at: usize, reason: Reason) -> usize
+    requires { ⌜ (at + 70 ≤ length (now text)) × (36 ≤ order reason) ⌝ }
     ensures { λ r. ⌜ (now (text .exit) ≡ writeAt (now (text .entry)) at (spelled (condition reason))) × (r ≡ at + length (spelled (condition reason))) ⌝ }
 {
     match reason {
-        Reason::BredrNotSupported => put(text, at, b"the controller does not support BR/EDR"),
-        Reason::LeNotSupported => put(text, at, b"the controller does not support Low Energy"),
-        Reason::DiscoverableTimeoutUnpowered => put(
-            text,
-            at,
-            b"a discoverable timeout needs power",
-        ),
-        Reason::Unpowered => put(text, at, b"the controller is not powered"),
-        Reason::NoAddressForPower => put(
-            text,
-            at,
-            b"the controller has no public and no static address",
-        ),
         Reason::NotConnectable => put(text, at, b"connectable is off"),
+        Reason::BredrOff => put(text, at, b"BR/EDR is off"),
         Reason::LowEnergyNeeded => put(text, at, b"without BR/EDR support Low Energy stays on"),
+        Reason::PoweredForBredrOff => put(
+            text,
+            at,
+            b"BR/EDR cannot be turned off while power is on",
+        ),
+        Reason::StaticAddressForBredr => put(
+            text,
+            at,
+            b"BR/EDR cannot be turned on with a static address set",
+        ),
         Reason::PoweredForStaticAddress => put(
             text,
             at,
@@ -166,8 +167,8 @@ fn put_later_condition(text: &mut [u8], at: usize, reason: Reason) -> usize
     }
 }
 
-// The condition of a reason behind those of addresses, in words, written from the place `at` on. Returns where it ends.
-fn put_value_condition(text: &mut [u8], at: usize, reason: Reason) -> usize
+// The condition of a reason of the middle or the last third, in words, written from the place `at` on. Returns where it ends.
+fn put_middle_condition(text: &mut [u8], at: usize, reason: Reason) -> usize
     requires { ⌜ (at + 70 ≤ length (now text)) × (17 ≤ order reason) ⌝ }
     ensures { λ r. ⌜ (now (text .exit) ≡ writeAt (now (text .entry)) at (spelled (condition reason))) × (r ≡ at + length (spelled (condition reason))) ⌝ }
 {
@@ -186,7 +187,20 @@ fn put_value_condition(text: &mut [u8], at: usize, reason: Reason) -> usize
         Reason::AdvertisingFlags => put(text, at, b"the advertising flags are not zero"),
         Reason::AdvDataAbove31 => put(text, at, b"the advertising data are over 31 octets"),
         Reason::ScanRspAbove31 => put(text, at, b"the scan response data are over 31 octets"),
-        _ => put_later_condition(text, at, reason),
+        Reason::BredrNotSupported => put(text, at, b"the controller does not support BR/EDR"),
+        Reason::LeNotSupported => put(text, at, b"the controller does not support Low Energy"),
+        Reason::DiscoverableTimeoutUnpowered => put(
+            text,
+            at,
+            b"a discoverable timeout needs power",
+        ),
+        Reason::Unpowered => put(text, at, b"the controller is not powered"),
+        Reason::NoAddressForPower => put(
+            text,
+            at,
+            b"the controller has no public and no static address",
+        ),
+        _ => put_last_condition(text, at, reason),
     }
 }
 
@@ -229,7 +243,7 @@ fn put_condition(text: &mut [u8], at: usize, reason: Reason) -> usize
             at,
             b"address zero (all devices) takes only address type 0",
         ),
-        _ => put_value_condition(text, at, reason),
+        _ => put_middle_condition(text, at, reason),
     }
 }
 

@@ -61,7 +61,10 @@ remove-requires c κs = c .before .before .before .before .removable .ensures .1
 
 -- src/lib.rt:149:9
 put-turns-requires : tie.Need-put-turns-requires
-put-turns-requires c κs = search needs
+put-turns-requires c κs = (
+  c .before .before .before .before .before .before .before .before .before .before .before .before .before .before .pre .0,
+  c .before .before .before .before .before .before .before .before .schedule-at .ensures,
+)
 
 -- src/lib.rt:150:9
 command-complete-requires : tie.Need-command-complete-requires

@@ -29,6 +29,12 @@ add-if4 c = search needs
 shared-slice-read-if4 : tie.Need-shared-slice-read-if4
 shared-slice-read-if4 c = search needs
 
+add-if5 : tie.Need-add-if5
+add-if5 c = search needs
+
+shared-slice-read-if5 : tie.Need-shared-slice-read-if5
+shared-slice-read-if5 c = search needs
+
 add-result : tie.Need-add-result
 add-result c = search needs
 
@@ -55,6 +61,10 @@ returns-5 : tie.Need-returns-5
 unfolding flagsOctetsOk
 returns-5 c = search tests
 
+returns-6 : tie.Need-returns-6
+unfolding flagsOctetsOk
+returns-6 c = search tests
+
 pub flags-ok-spec : {M : Type 1} → statement M
 flags-ok-spec =
     tie.close
@@ -67,10 +77,13 @@ flags-ok-spec =
     shared-slice-read-if3
     add-if4
     shared-slice-read-if4
+    add-if5
+    shared-slice-read-if5
     add-result
     shared-slice-read-result
     returns
     returns-2
     returns-3
     returns-4
-    returns-5)
+    returns-5
+    returns-6)

@@ -1,6 +1,6 @@
 -- `checks::open_ok` meets its contract. Each way out is one law, by the command's code.
 use mathlib.Core.Path.{sym, _∙_}
-use Rattle.checks.proofs.Laws.{opens-none, opens-discoverable, opens-powered, opens-connectable, opens-low-energy, opens-other, opens-more}
+use Rattle.checks.proofs.Laws.{opens-none, opens-discoverable, opens-powered, opens-connectable, opens-low-energy, opens-bredr, opens-other, opens-more}
 use denote.Ref.{now}
 use borrow.Author.Needs.{needs}
 use Rattle.checks.proofs.open_ok.Statement.{statement}
@@ -145,15 +145,48 @@ returns-5 c =
     (sym (c .before .before .before .before .before .before .before .zero-part2 .ensures)
     ∙ c .before .before .before .before .before .before .if3 .taken) (c .before .before .before .if6 .taken) _ (c .before .decide-low-energy .ensures)
 
+add-decide-bredr : tie.Need-add-decide-bredr
+add-decide-bredr c = search needs
+
+add-decide-bredr-2 : tie.Need-add-decide-bredr-2
+add-decide-bredr-2 c = search needs
+
+sub-decide-bredr : tie.Need-sub-decide-bredr
+sub-decide-bredr c = search needs
+
+part-decide-bredr-start : tie.Need-part-decide-bredr-start
+part-decide-bredr-start c = search needs
+
+part-decide-bredr-end : tie.Need-part-decide-bredr-end
+part-decide-bredr-end c = search needs
+
+decide-bredr-requires : tie.Need-decide-bredr-requires
+decide-bredr-requires c κs = search needs
+
+waits-requires-5 : tie.Need-waits-requires-5
+waits-requires-5 c κs = search needs
+
 returns-6 : tie.Need-returns-6
 returns-6 c =
-    opens-other _ (now (c .before .before .before .before .before .before .before .before .before .args .s))
-    (c .before .before .before .before .before .before .before .before .before .args .at) _
-    (c .before .before .before .before .before .before .before .u16-at .ensures .0) (c .before .before .before .before .before .before .if1 .left)
-    (search needs) (c .before .before .before .before .before .if2 .left) (c .before .before .if4 .left) (c .before .if5 .left) (c .if6 .left)
+    c .waits5 .ensures ∙ opens-bredr _ (now (c .before .before .before .before .before .before .before .before .before .before .before .before
+    .before .args .s))
+    (c .before .before .before .before .before .before .before .before .before .before .before .before .before .args .at) _
+    (c .before .before .before .before .before .before .before .before .before .before .before .u16-at .ensures .0)
+    (c .before .before .before .before .before .before .before .before .before .before .if1 .left) (search needs)
+    (sym (c .before .before .before .before .before .before .before .before .zero-part2 .ensures)
+    ∙ c .before .before .before .before .before .before .before .if3 .taken) (c .before .before .before .if7 .taken) _ (c .before .decide-bredr .ensures)
 
 returns-7 : tie.Need-returns-7
 returns-7 c =
+    opens-other _ (now (c .before .before .before .before .before .before .before .before .before .before .args .s))
+    (c .before .before .before .before .before .before .before .before .before .before .args .at) _
+    (c .before .before .before .before .before .before .before .before .u16-at .ensures .0)
+    (c .before .before .before .before .before .before .before .if1 .left)
+    (search needs) (c .before .before .before .before .before .before .if2 .left) (c .before .before .before .if4 .left)
+    (c .before .before .if5 .left) (c .before .if6 .left) (c .if7 .left)
+
+returns-8 : tie.Need-returns-8
+returns-8 c =
     opens-more _ (now (c .before .before .before .before .before .before .args .s)) (c .before .before .before .before .before .before .args .at) _
     (c .before .before .before .before .u16-at .ensures .0) (c .before .before .before .if1 .left) (search needs) (c .before .before .if2 .left)
     (sym (c .before .zero-part2 .ensures) ∙ c .if3 .left)
@@ -200,5 +233,13 @@ open-ok-spec =
     decide-low-energy-requires
     waits-requires-4
     returns-5
+    add-decide-bredr
+    add-decide-bredr-2
+    sub-decide-bredr
+    part-decide-bredr-start
+    part-decide-bredr-end
+    decide-bredr-requires
+    waits-requires-5
     returns-6
-    returns-7)
+    returns-7
+    returns-8)

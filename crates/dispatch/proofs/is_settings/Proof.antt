@@ -30,5 +30,9 @@ returns-6 : tie.Need-returns-6
 unfolding member settingsCodes
 returns-6 c = search (eq-eqb, ne-eqb, or-nothing)
 
+returns-7 : tie.Need-returns-7
+unfolding member settingsCodes
+returns-7 c = search (eq-eqb, ne-eqb, or-nothing)
+
 pub is-settings-spec : {M : Type 1} → statement M
-is-settings-spec = tie.close (tie.spec returns returns-2 returns-3 returns-4 returns-5 returns-6)
+is-settings-spec = tie.close (tie.spec returns returns-2 returns-3 returns-4 returns-5 returns-6 returns-7)

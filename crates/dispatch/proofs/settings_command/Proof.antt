@@ -1,9 +1,9 @@
 -- `dispatch::settings_command` meets its contract.
 use Prim.Native.Nat.{_-_}
 use borrow.Author.Needs.{needs}
-use Rattle.model.specs.Rules.{setPowered, setDiscoverable, setConnectable, setLowEnergy, setStaticAddress}
+use Rattle.model.specs.Rules.{setPowered, setDiscoverable, setConnectable, setLowEnergy, setBredr, setStaticAddress}
 use Rattle.model.specs.Immediate.{setBondable}
-use Rattle.dispatch.proofs.Bridge.{arm-immediate, arm-radio, settings-last, rule-05, rule-06, rule-07, rule-09, rule-0D, rule-2B}
+use Rattle.dispatch.proofs.Bridge.{arm-immediate, arm-radio, settings-last, rule-05, rule-06, rule-07, rule-09, rule-0D, rule-2A, rule-2B}
 use Rattle.dispatch.proofs.settings_command.Statement.{statement}
 use Rattle.dispatch.proofs.settings_command.Tie as tie
 
@@ -77,8 +77,8 @@ returns-5 c =
     arm-radio _ _ _ 13 _ _ _ _ _ (c .before .before .before .before .before .before .before .if5 .taken) setLowEnergy rule-0D (search needs)
     (c .before .before .before .before .set-low-energy .ensures)
 
-set-static-address-requires : tie.Need-set-static-address-requires
-set-static-address-requires c κs = search needs
+set-bredr-requires : tie.Need-set-bredr-requires
+set-bredr-requires c κs = search needs
 
 same-length-11 : tie.Need-same-length-11
 same-length-11 c = search needs
@@ -88,13 +88,28 @@ same-length-12 c = search needs
 
 returns-6 : tie.Need-returns-6
 returns-6 c =
+    arm-radio _ _ _ 42 _ _ _ _ _ (c .before .before .before .before .before .before .before .if6 .taken) setBredr rule-2A (search needs)
+    (c .before .before .before .before .set-bredr .ensures)
+
+set-static-address-requires : tie.Need-set-static-address-requires
+set-static-address-requires c κs = search needs
+
+same-length-13 : tie.Need-same-length-13
+same-length-13 c = search needs
+
+same-length-14 : tie.Need-same-length-14
+same-length-14 c = search needs
+
+returns-7 : tie.Need-returns-7
+returns-7 c =
     arm-radio _ _ _ 43 _ _ _ _ _ (settings-last _
-    (c .before .before .before .before .before .before .before .before .before .before .before .before .before .before .before .pre .2)
-    (c .before .before .before .before .before .before .before .before .before .before .before .if1 .left)
-    (c .before .before .before .before .before .before .before .before .before .before .if2 .left)
-    (c .before .before .before .before .before .before .before .before .before .if3 .left)
-    (c .before .before .before .before .before .before .before .before .if4 .left)
-    (c .before .before .before .before .before .before .before .if5 .left)) setStaticAddress rule-2B (search needs)
+    (c .before .before .before .before .before .before .before .before .before .before .before .before .before .before .before .before .pre .2)
+    (c .before .before .before .before .before .before .before .before .before .before .before .before .if1 .left)
+    (c .before .before .before .before .before .before .before .before .before .before .before .if2 .left)
+    (c .before .before .before .before .before .before .before .before .before .before .if3 .left)
+    (c .before .before .before .before .before .before .before .before .before .if4 .left)
+    (c .before .before .before .before .before .before .before .before .if5 .left)
+    (c .before .before .before .before .before .before .before .if6 .left)) setStaticAddress rule-2B (search needs)
     (c .before .before .before .before .set-static-address .ensures)
 
 pub settings-command-spec : {M : Type 1} → statement M
@@ -121,7 +136,11 @@ settings-command-spec =
     same-length-9
     same-length-10
     returns-5
-    set-static-address-requires
+    set-bredr-requires
     same-length-11
     same-length-12
-    returns-6)
+    returns-6
+    set-static-address-requires
+    same-length-13
+    same-length-14
+    returns-7)

@@ -1,7 +1,7 @@
 -- `explain::settings_finding` meets its contract: each code by its rule.
-use Rattle.model.specs.Rules.{setConnectable, setDiscoverable, setLowEnergy, setPowered, setStaticAddress}
+use Rattle.model.specs.Rules.{setBredr, setConnectable, setDiscoverable, setLowEnergy, setPowered, setStaticAddress}
 use Rattle.model.specs.Immediate.{setBondable}
-use Rattle.dispatch.proofs.Bridge.{rule-05, rule-06, rule-07, rule-09, rule-0D, rule-2B, settings-last}
+use Rattle.dispatch.proofs.Bridge.{rule-05, rule-06, rule-07, rule-09, rule-0D, rule-2A, rule-2B, settings-last}
 use Rattle.explain.proofs.Routes.{arm-immediate, arm-settings}
 use borrow.Author.Needs.{needs}
 use Rattle.explain.proofs.settings_finding.Statement.{statement}
@@ -53,16 +53,26 @@ returns-5 c =
     (c .before .before .before .before .before .before .before .before .settings-at .ensures)
     (c .before .before .before .before .before .before .busy-at .ensures) (c .set-low-energy .ensures)
 
-set-static-address-requires : tie.Need-set-static-address-requires
-set-static-address-requires c κs = search needs
+set-bredr-requires : tie.Need-set-bredr-requires
+set-bredr-requires c κs = search needs
 
 returns-6 : tie.Need-returns-6
 returns-6 c =
-    arm-settings _ _ _ 43 _ _ (settings-last _ (c .before .before .before .before .before .before .before .before .before .before .before .pre .1)
-    (c .before .before .before .before .before .if1 .left) (c .before .before .before .before .if2 .left) (c .before .before .before .if3 .left)
-    (c .before .before .if4 .left) (c .before .if5 .left)) setStaticAddress rule-2B (search needs) _ _
-    (c .before .before .before .before .before .before .before .before .settings-at .ensures)
-    (c .before .before .before .before .before .before .busy-at .ensures) (c .set-static-address .ensures)
+    arm-settings _ _ _ 42 _ _ (c .before .if6 .taken) setBredr rule-2A (search needs) _ _
+    (c .before .before .before .before .before .before .before .before .before .settings-at .ensures)
+    (c .before .before .before .before .before .before .before .busy-at .ensures) (c .set-bredr .ensures)
+
+set-static-address-requires : tie.Need-set-static-address-requires
+set-static-address-requires c κs = search needs
+
+returns-7 : tie.Need-returns-7
+returns-7 c =
+    arm-settings _ _ _ 43 _ _ (settings-last _ (c .before .before .before .before .before .before .before .before .before .before .before .before .pre .1)
+    (c .before .before .before .before .before .before .if1 .left) (c .before .before .before .before .before .if2 .left)
+    (c .before .before .before .before .if3 .left)
+    (c .before .before .before .if4 .left) (c .before .before .if5 .left) (c .before .if6 .left)) setStaticAddress rule-2B (search needs) _ _
+    (c .before .before .before .before .before .before .before .before .before .settings-at .ensures)
+    (c .before .before .before .before .before .before .before .busy-at .ensures) (c .set-static-address .ensures)
 
 pub settings-finding-spec : {M : Type 1} → statement M
 settings-finding-spec =
@@ -80,5 +90,7 @@ settings-finding-spec =
     returns-4
     set-low-energy-requires
     returns-5
+    set-bredr-requires
+    returns-6
     set-static-address-requires
-    returns-6)
+    returns-7)

@@ -1,4 +1,4 @@
--- `findings::set_discoverable` meets its contract: value and timeout, support, power, Busy, and connectable.
+-- `findings::set_discoverable` meets its contract: value and timeout, support, power, Busy, connectable, and BR/EDR.
 use Rattle.model.specs.Rules.{setDiscoverable}
 use Rattle.why.proofs.Orders.{radio-right, radio-wrong}
 use Rattle.model.specs.Octets.{octet}
@@ -33,6 +33,9 @@ both-requires-3 c κs = search needs
 both-requires-4 : tie.Need-both-requires-4
 both-requires-4 c κs = search needs
 
+both-requires-5 : tie.Need-both-requires-5
+both-requires-5 c κs = search needs
+
 check-at-requires : tie.Need-check-at-requires
 check-at-requires c κs = search needs
 
@@ -54,23 +57,30 @@ check-busy-requires c κs = search needs
 check-later-requires-3 : tie.Need-check-later-requires-3
 check-later-requires-3 c κs = search needs
 
+check-later-requires-4 : tie.Need-check-later-requires-4
+check-later-requires-4 c κs = search needs
+
 returns-2 : tie.Need-returns-2
 unfolding inPacket moved further setDiscoverable octet
 returns-2 c = rw (
-  c .check-later3 .ensures,
-  c .before .check-busy .ensures,
-  c .before .before .check-later2 .ensures,
-  c .before .before .before .check-later .ensures,
-  c .before .before .before .before .check-at3 .ensures,
-  c .before .before .before .before .before .check-at2 .ensures,
-  c .before .before .before .before .before .before .check-at .ensures,
-  c .before .before .before .before .before .before .before .both4 .ensures,
-  c .before .before .before .before .before .before .before .before .before .both3 .ensures,
-  c .before .before .before .before .before .before .before .before .before .before .before .both2 .ensures,
-  c .before .before .before .before .before .before .before .before .before .before .before .before .both .ensures,
-  c .before .before .before .before .before .before .before .before .before .before .before .before .before .bredr-supported .ensures,
-  c .before .before .before .before .before .before .before .before .before .before .before .before .before .before .u16-at .ensures .0,
-) (radio-right setDiscoverable _ _ _ (c .before .before .before .before .before .before .before .before .before .before .before .before .before .before .before .before .if1 .left))
+  c .check-later4 .ensures,
+  c .before .check-later3 .ensures,
+  c .before .before .check-busy .ensures,
+  c .before .before .before .check-later2 .ensures,
+  c .before .before .before .before .check-later .ensures,
+  c .before .before .before .before .before .check-at3 .ensures,
+  c .before .before .before .before .before .before .check-at2 .ensures,
+  c .before .before .before .before .before .before .before .check-at .ensures,
+  c .before .before .before .before .before .before .before .before .both5 .ensures,
+  c .before .before .before .before .before .before .before .before .before .before .both4 .ensures,
+  c .before .before .before .before .before .before .before .before .before .before .before .before .both3 .ensures,
+  c .before .before .before .before .before .before .before .before .before .before .before .before .before .before .both2 .ensures,
+  c .before .before .before .before .before .before .before .before .before .before .before .before .before .before .before .both .ensures,
+  c .before .before .before .before .before .before .before .before .before .before .before .before .before .before .before .before .bredr-supported .ensures,
+  c .before .before .before .before .before .before .before .before .before .before .before .before .before .before .before .before .before .u16-at .ensures .0,
+) (radio-right setDiscoverable _ _ _
+    (c .before .before .before .before .before .before .before .before .before
+    .before .before .before .before .before .before .before .before .before .before .if1 .left))
 
 pub set-discoverable-spec : {M : Type 1} → statement M
 set-discoverable-spec =
@@ -84,6 +94,7 @@ set-discoverable-spec =
     both-requires-2
     both-requires-3
     both-requires-4
+    both-requires-5
     check-at-requires
     check-at-requires-2
     check-at-requires-3
@@ -91,4 +102,5 @@ set-discoverable-spec =
     check-later-requires-2
     check-busy-requires
     check-later-requires-3
+    check-later-requires-4
     returns-2)

@@ -1,4 +1,4 @@
--- `findings::set_low_energy` meets its contract: the value, support, Busy, and that something else is left.
+-- `findings::set_low_energy` meets its contract: the value, support, Busy, that BR/EDR is there, and that it is on.
 use Rattle.model.specs.Rules.{on, setLowEnergy}
 use Rattle.why.proofs.Orders.{radio-right, radio-wrong}
 use Rattle.model.specs.Octets.{octet}
@@ -36,17 +36,25 @@ both-requires c κs = search needs
 check-later-requires-2 : tie.Need-check-later-requires-2
 check-later-requires-2 c κs = search needs
 
+both-requires-2 : tie.Need-both-requires-2
+both-requires-2 c κs = search needs
+
+check-later-requires-3 : tie.Need-check-later-requires-3
+check-later-requires-3 c κs = search needs
+
 returns-2 : tie.Need-returns-2
 unfolding inPacket moved further setLowEnergy on octet
 returns-2 c = rw (
-  c .check-later2 .ensures,
-  c .before .both .ensures,
-  c .before .before .check-busy .ensures,
-  c .before .before .before .check-later .ensures,
-  c .before .before .before .before .check-at .ensures,
-  c .before .before .before .before .before .bredr-supported .ensures,
-  c .before .before .before .before .before .before .le-supported .ensures,
-) (radio-right setLowEnergy _ _ _ (c .before .before .before .before .before .before .before .before .if1 .left))
+  c .check-later3 .ensures,
+  c .before .both2 .ensures,
+  c .before .before .before .check-later2 .ensures,
+  c .before .before .before .before .both .ensures,
+  c .before .before .before .before .before .check-busy .ensures,
+  c .before .before .before .before .before .before .check-later .ensures,
+  c .before .before .before .before .before .before .before .check-at .ensures,
+  c .before .before .before .before .before .before .before .before .bredr-supported .ensures,
+  c .before .before .before .before .before .before .before .before .before .le-supported .ensures,
+) (radio-right setLowEnergy _ _ _ (c .before .before .before .before .before .before .before .before .before .before .before .if1 .left))
 
 pub set-low-energy-spec : {M : Type 1} → statement M
 set-low-energy-spec =
@@ -61,4 +69,6 @@ set-low-energy-spec =
     check-busy-requires
     both-requires
     check-later-requires-2
+    both-requires-2
+    check-later-requires-3
     returns-2)

@@ -2,8 +2,6 @@
 use mathlib.Core.Path.{_∙_}
 use native.Mathlib.Omega.{arith}
 use Rattle.model.specs.Proof.Demand3.{state-long}
-use Rattle.model.specs.Octets.{bit}
-use Rattle.model.specs.State.{leSupported}
 use Rattle.layout.proofs.Filled.{block-filled}
 use borrow.Author.Needs.{needs}
 use Rattle.layout.proofs.fill_block.Statement.{statement}
@@ -15,11 +13,11 @@ block-place-requires c κs = search needs
 hardware-head-requires : tie.Need-hardware-head-requires
 hardware-head-requires c κs = search needs
 
-flag-octet-requires : tie.Need-flag-octet-requires
-flag-octet-requires c κs = search needs
+transports-requires : tie.Need-transports-requires
+transports-requires c κs = search needs
 
 put8-requires : tie.Need-put8-requires
-put8-requires c κs = omega (arith, state-long _ (c .before .before .before .before .before .before .before .pre .0))
+put8-requires c κs = omega (arith, state-long _ (c .before .before .before .before .before .before .pre .0))
 
 add-copy-into : tie.Need-add-copy-into
 add-copy-into c = search needs
@@ -28,8 +26,7 @@ slice-aggregate-copy-into : tie.Need-slice-aggregate-copy-into
 slice-aggregate-copy-into c = search needs
 
 copy-into-requires : tie.Need-copy-into-requires
-copy-into-requires c κs =
-    omega (arith, state-long _ (c .before .before .before .before .before .before .before .before .before .before .before .before .pre .0))
+copy-into-requires c κs = omega (arith, state-long _ (c .before .before .before .before .before .before .before .before .before .before .before .pre .0))
 
 add-copy-into-2 : tie.Need-add-copy-into-2
 add-copy-into-2 c = search needs
@@ -38,34 +35,32 @@ slice-aggregate-copy-into-2 : tie.Need-slice-aggregate-copy-into-2
 slice-aggregate-copy-into-2 c = search needs
 
 copy-into-requires-2 : tie.Need-copy-into-requires-2
-copy-into-requires-2 c κs =
-    omega (
-      arith,
-      state-long _
-          (c .before .before .before .before .before .before .before .before .before .before .before .before .before .before .before .before .before .pre .0),
-    )
+copy-into-requires-2 c κs = omega (
+  arith,
+  state-long _ (c .before .before .before .before .before .before .before .before .before .before
+      .before .before .before .before .before .before .pre .0),
+)
 
-add-put8 : tie.Need-add-put8
-add-put8 c = search needs
+add-copy-into-3 : tie.Need-add-copy-into-3
+add-copy-into-3 c = search needs
 
-put8-requires-2 : tie.Need-put8-requires-2
-put8-requires-2 c κs =
-    omega (
-      arith,
-      state-long _
-          (c .before .before .before .before .before .before .before .before .before .before .before .before .before .before .before .before .before
-          .before .before .before .before .pre .0),
-    )
+slice-aggregate-copy-into-3 : tie.Need-slice-aggregate-copy-into-3
+slice-aggregate-copy-into-3 c = search needs
+
+copy-into-requires-3 : tie.Need-copy-into-requires-3
+copy-into-requires-3 c κs = omega (
+  arith,
+  state-long _ (c .before .before .before .before .before .before .before .before .before .before
+      .before .before .before .before .before .before .before .before .before .before .before .pre .0),
+)
 
 same-length : tie.Need-same-length
 same-length c = search needs
 
 returns : tie.Need-returns
-unfolding leSupported bit
 returns c =
-    let p =
-    c .before .before .before .before .before .before .before .before .before .before .before .before .before .before .before .before .before .before
-    .before .before .before .before .before .before .pre in (cc) ∙ block-filled _ _ _ (p .0) (p .1) (p .2) (p .3)
+    let p = c .before .before .before .before .before .before .before .before .before .before .before .before .before .before .before .before
+    .before .before .before .before .before .before .before .before .pre in (cc) ∙ block-filled _ _ _ (p .0) (p .1) (p .2) (p .3)
 
 pub fill-block-spec : {M : Type 1} → statement M
 fill-block-spec =
@@ -73,7 +68,7 @@ fill-block-spec =
     (tie.spec
     block-place-requires
     hardware-head-requires
-    flag-octet-requires
+    transports-requires
     put8-requires
     add-copy-into
     slice-aggregate-copy-into
@@ -81,7 +76,8 @@ fill-block-spec =
     add-copy-into-2
     slice-aggregate-copy-into-2
     copy-into-requires-2
-    add-put8
-    put8-requires-2
+    add-copy-into-3
+    slice-aggregate-copy-into-3
+    copy-into-requires-3
     same-length
     returns)

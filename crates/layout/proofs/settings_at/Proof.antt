@@ -44,17 +44,23 @@ add-t19 c = search needs
 shared-slice-read-t21 : tie.Need-shared-slice-read-t21
 shared-slice-read-t21 c = search needs
 
+add-t23 : tie.Need-add-t23
+add-t23 c = search needs
+
+shared-slice-read-t25 : tie.Need-shared-slice-read-t25
+shared-slice-read-t25 c = search needs
+
 add-t10-2 : tie.Need-add-t10-2
 add-t10-2 c = search needs
 
 shared-slice-read-t13-2 : tie.Need-shared-slice-read-t13-2
 shared-slice-read-t13-2 c = search needs
 
-add-t19-2 : tie.Need-add-t19-2
-add-t19-2 c = search needs
+add-t23-2 : tie.Need-add-t23-2
+add-t23-2 c = search needs
 
-shared-slice-read-t21-2 : tie.Need-shared-slice-read-t21-2
-shared-slice-read-t21-2 c = search needs
+shared-slice-read-t25-2 : tie.Need-shared-slice-read-t25-2
+shared-slice-read-t25-2 c = search needs
 
 returns : tie.Need-returns
 unfolding settingsFrom
@@ -77,8 +83,10 @@ settings-at-spec =
     shared-slice-read-t17
     add-t19
     shared-slice-read-t21
+    add-t23
+    shared-slice-read-t25
     add-t10-2
     shared-slice-read-t13-2
-    add-t19-2
-    shared-slice-read-t21-2
+    add-t23-2
+    shared-slice-read-t25-2
     returns)

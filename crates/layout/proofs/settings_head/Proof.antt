@@ -20,11 +20,14 @@ flag-octet-requires-4 c κs = search needs
 flag-octet-requires-5 : tie.Need-flag-octet-requires-5
 flag-octet-requires-5 c κs = search needs
 
-cast-t12 : tie.Need-cast-t12
-cast-t12 c = search needs
+flag-octet-requires-6 : tie.Need-flag-octet-requires-6
+flag-octet-requires-6 c κs = search needs
 
-cast-t15 : tie.Need-cast-t15
-cast-t15 c = search needs
+cast-t13 : tie.Need-cast-t13
+cast-t13 c = search needs
+
+cast-t16 : tie.Need-cast-t16
+cast-t16 c = search needs
 
 returns : tie.Need-returns
 unfolding settingsHead le16
@@ -39,6 +42,7 @@ settings-head-spec =
     flag-octet-requires-3
     flag-octet-requires-4
     flag-octet-requires-5
-    cast-t12
-    cast-t15
+    flag-octet-requires-6
+    cast-t13
+    cast-t16
     returns)

@@ -13,24 +13,23 @@ use Rattle.model.specs.Octets.{Octets, octet}
 use Rattle.model.specs.Advertising.{Schedule, addedInstance, durationOf, instances, noAdvertising, noSchedule, passedOn, present, removedInstance}
 use Rattle.model.specs.Advertising.{repowered, rescheduled, second, seconds, valueOf, withInstance, without}
 use Rattle.model.specs.State.{Controller, Hardware, Host, Hub, OpenCommand, PlainHub, controllerAt, hardwareOk, plugged, withAdvertising}
-use Rattle.model.specs.State.{withBondable, withConnectable}
+use Rattle.model.specs.State.{withBondable, withBredr, withConnectable}
 use Rattle.model.specs.State.{withController, withHost, withLowEnergy, withName, withPowered, withSchedule, withTable, withTimer}
 use Rattle.model.specs.Reasons.{Reason, firstOf}
 use Rattle.model.specs.Rules.{Immediate, ImmediateRule, RadioRule, Rule, done, general, immediate, on, radio, refuse, setConnectable, setDiscoverable}
 use Rattle.model.specs.Rules.{act, unless}
 use Rattle.model.specs.Rules.{setLowEnergy}
-use Rattle.model.specs.Rules.{setPowered, setStaticAddress}
+use Rattle.model.specs.Rules.{setBredr, setPowered, setStaticAddress}
 use Rattle.model.specs.Immediate.{addAdvertising, advertisingChecks, addDevice, addUuid, advertised, blockDevice, identityKeyList, linkKeyList}
 use Rattle.model.specs.Immediate.{loadKeys, longTermKeyList}
 use Rattle.model.specs.Immediate.{readInformation, removeAdvertising, removeDevice, removeUuid, setBondable, setLocalName, unblockDevice}
 use Rattle.model.specs.Immediate.{unpairDevice, unpaired}
 use Rattle.model.specs.Commands.{rows, rule}
-use Rattle.model.specs.Image.{image}
 use Rattle.model.specs.Hub.{Call, Outcome, Result, Verdict, acted, anyway, badArgument, badPacket, busyOr, byRule, call, callPlain, clock, clockOut}
-use Rattle.model.specs.Hub.{codeOf}
+use Rattle.model.specs.Hub.{codeOf, notInImage}
 use Rattle.model.specs.Hub.{command, commandOut, finish, finishBy, finished, generalOut, immediateAt, immediateDone, indexOf, keep, noRoom, outcome}
 use Rattle.model.specs.Hub.{packetOk, paramsOf}
-use Rattle.model.specs.Hub.{plug, plugOut, radioAfterBusy, radioAt, radioBeforeBusy, refused, report, reportOut, save, stateOf, stepOf, tick}
+use Rattle.model.specs.Hub.{plug, plugOut, radioAfterBusy, radioAt, radioBeforeBusy, refused, report, reportOut, save, saveOut, stateOf, stepOf, tick}
 use Rattle.model.specs.Hub.{tickSlot, underWay}
 use Rattle.model.specs.Hub.{answerOf, unlessBusy, unplug, unplugOut, unplugged, verdict, withOpen, within}
 use Rattle.model.specs.WellFormed.{callWide, callsWide, scheduleOk, wellFormed}
@@ -38,7 +37,7 @@ use Rattle.model.specs.Fairness.{each, longest, moments, offAir, others,
 use Rattle.model.specs.Fairness.{sumOf}
 use Rattle.model.specs.Proof.Advertising.{advertising-fit}
 use Rattle.model.specs.Proof.EveryRow.{Each, _&_, end, found}
-use Rattle.model.specs.Proof.Invariant.{put-other, put-same, slot-tick}
+use Rattle.model.specs.Proof.Invariant.{put-other, put-same, save-same, slot-tick}
 use Rattle.model.specs.Proof.Keeps.{keeps-hub, well-fit}
 use Rattle.model.specs.Proof.Parts.{controller-fit}
 use Rattle.model.specs.Proof.Stays.{controller-ok}
@@ -141,6 +140,13 @@ connectable-onward k c ps =
     either (λ (s : Host). Onward k c (record { radio = withConnectable (c .radio) (on ps); host = s })) (on ps) (λ _. same-schedule k c _ refl)
     (λ _. same-schedule k c _ refl)
 
+-- Set BR/EDR
+bredr-onward : OnwardRule (radio setBredr)
+unfolding OnwardRule setBredr withTimer
+bredr-onward k c ps =
+    either (λ (s : Host). Onward k c (record { radio = withBredr (c .radio) (on ps); host = s })) (on ps) (λ _. same-schedule k c _ refl)
+    (λ _. same-schedule k c _ refl)
+
 -- a rule of a command that is never Busy, by what it gives
 at-once : (q : ImmediateRule) → ((k i : ℕ) (c : Controller) (ps : Octets) → OnwardImmediate k c (act q i c ps)) → OnwardRule (immediate q)
 unfolding OnwardRule
@@ -179,6 +185,7 @@ all-onward =
     & at-once unpairDevice (λ k i c ps. same-host k c _ _ _ _ refl)
     & at-once blockDevice (λ k i c ps. same-host k c _ _ _ _ refl)
     & at-once unblockDevice (λ k i c ps. same-host k c _ _ _ _ refl)
+    & bredr-onward
     & by-effect setStaticAddress (λ k c ps. same-schedule k c _ refl)
     & at-once (loadKeys identityKeyList) (λ k i c ps. same-host k c _ _ _ _ refl)
     & at-once addDevice (λ k i c ps. same-host k c _ _ _ _ refl)
@@ -335,6 +342,7 @@ unplugged-forward i k h j (refused g r) f = f
 unplugged-forward i k h j badPacket f = f
 unplugged-forward i k h j noRoom f = f
 unplugged-forward i k h j badArgument f = f
+unplugged-forward i k h j notInImage f = f
 
 -- 3. One call ---------------------------------------------------------------------------------------------------------------------------------
 
@@ -426,7 +434,7 @@ call-wait m i k h (unplug room j) u =
     (within-forward i k (h .plain) 1024 room (unplugOut (h .plain) j (controllerAt (h .plain) j))
     (unplug-forward i k (h .plain) j (controllerAt (h .plain) j) refl)))
 call-wait m i k h (save room) u = no-second m i k h (save room) u
-    (within-forward i k (h .plain) 16014 room (finished (image (h .plain)) (h .plain)) (still i k (h .plain)))
+    (within-forward i k (h .plain) 16014 room (saveOut (h .plain)) (rw (save-same (h .plain)) (still i k (h .plain))))
 
 -- 4. The list ---------------------------------------------------------------------------------------------------------------------------------
 

@@ -18,12 +18,12 @@ use Rattle.model.specs.Immediate.{addAdvertising, removeAdvertising, set
 use Rattle.model.specs.Commands.{Row, find, rows, rule}
 use Rattle.model.specs.Hub.{Call, Outcome, RefusalForm, Result, Verdict, acted, answerOf, anyway, badArgument, badPacket, busyOr, byRule}
 use Rattle.model.specs.Hub.{byStatus, call, callPlain}
-use Rattle.model.specs.Hub.{clock, clockOut, codeOf, command, commandOut, finish, finishBy, finished, generalOut, immediateAt, immediateDone}
+use Rattle.model.specs.Hub.{clock, clockOut, codeOf, command, commandOut, finish, finishBy, finished, notInImage, generalOut, immediateAt, immediateDone}
 use Rattle.model.specs.Hub.{indexOf, keep, noRoom}
 use Rattle.model.specs.Hub.{octetsOf, outcome, packetOk, paramsOf, plug, plugOut, radioAfterBusy, radioAt, radioBeforeBusy, refusalForm}
 use Rattle.model.specs.Hub.{refusalOctets, refused, report}
-use Rattle.model.specs.Hub.{reportOut, save, stepOf, underWay, unlessBusy, unplug, unplugOut, unplugged, verdict, within}
-use Rattle.model.specs.Image.{image, load}
+use Rattle.model.specs.Hub.{reportOut, save, saveOut, stepOf, underWay, unlessBusy, unplug, unplugOut, unplugged, verdict, within}
+use Rattle.model.specs.Image.{hasImage, load}
 use Rattle.model.specs.Layout.{decode}
 use Rattle.model.specs.Meanings.{badState, hubLoad, laidOut, loadMeaning, loadedInto, meaning, stateOk}
 use Rattle.model.specs.Written.{OneReply, Written, addressCommand, busy, busyCommand, byCommandComplete, byCommandStatus, hasArgument}
@@ -45,13 +45,15 @@ pub data FormOf : Call → RefusalForm → Reason → Type 0 where
   addressed : {room : ℕ} {packet : Octets} {r : Reason} → addressCommand (codeOf packet) ≡ true
       → FormOf (command room packet) (refusalForm true (indexOf packet) (codeOf packet) (paramsOf packet)) r
 
--- an outcome of this call: if it is a refusal, it has such a form; a bad packet is a command's, a wrong argument that of a call that has one
+-- an outcome of this call: if it is a refusal, it has such a form; a bad packet is a command's, a wrong argument that of a call that has one,
+-- and only a save finds no image
 unfoldable pub Formed : Call → Outcome → Type 0
 Formed c (finished o p) = Unit
 Formed c (refused f r) = FormOf c f r
 Formed c badPacket = Written c 3 []
 Formed c noRoom = Unit
 Formed c badArgument = hasArgument c ≡ true
+Formed c notInImage = Written c 8 []
 
 -- a refusal of such a form is one status reply
 form-written : (c : Call) (f : RefusalForm) (r : Reason) → FormOf c f r → Written c 2 (refusalOctets (f .index) (f .code) (f .address) (statusOf r))
@@ -68,10 +70,11 @@ outcome-written c (refused g r) f = form-written c g r f
 outcome-written c badPacket f = f
 outcome-written c noRoom f = WrittenCase.smallBuffer
 outcome-written c badArgument f = WrittenCase.badArgument f
+outcome-written c notInImage f = f
 
 -- 2. Commands -----------------------------------------------------------------------------------------------------------------------------------
 
--- the rules that are refused by address are those of the five address commands, the rules that can be Busy those of the five settings commands
+-- the rules that are refused by address are those of the five address commands, the rules that can be Busy those of the six settings commands
 unfoldable pub kindOk : ℕ → Rule → Bool
 kindOk code (general f) = not (addressCommand code)
 kindOk code (immediate q) = sameBool (q .byAddress) (addressCommand code)
@@ -236,6 +239,12 @@ unplug-written c h i (refused g r) f = outcome-written c (refused g r) f
 unplug-written c h i badPacket f = outcome-written c badPacket f
 unplug-written c h i noRoom f = outcome-written c noRoom f
 unplug-written c h i badArgument f = outcome-written c badArgument f
+unplug-written c h i notInImage f = outcome-written c notInImage f
+
+-- a save
+save-formed : (room : ℕ) (p : PlainHub) → Formed (save room) (saveOut p)
+unfolding Formed saveOut
+save-formed room p = either {A = Outcome} (λ x. Formed (save room) x) (hasImage (p .controllers)) (λ _. tt) (λ _. WrittenCase.notInImage)
 
 -- the outcome of an unplug
 unplug-formed : (c : Call) (p : PlainHub) (i : ℕ) (s : Option Controller) → hasArgument c ≡ true → Formed c (unplugOut p i s)
@@ -293,8 +302,9 @@ call-written h (unplug room i) =
     unplug-written (unplug room i) h i (within Lengths.replyBuffer room o)
     (within-formed (unplug room i) Lengths.replyBuffer room o (unplug-formed (unplug room i) (h .plain) i s refl))
 call-written h (save room) =
-    let o = finished (image (h .plain)) (h .plain) in
-    outcome-written (save room) (within Lengths.largestImage room o) (within-formed (save room) Lengths.largestImage room o tt)
+    let o = saveOut (h .plain) in
+    outcome-written (save room) (within Lengths.largestImage room o)
+    (within-formed (save room) Lengths.largestImage room o (save-formed room (h .plain)))
 
 -- EVERY CALL WRITES WHAT ITS ANSWER LETS IT WRITE, whatever the lent octets hold
 pub state-written : (s : Octets) (c : Call) → Written c (meaning s c .answer) (meaning s c .octets)
@@ -313,6 +323,7 @@ silent c n o WrittenCase.badPacket a b = refl
 silent c n o WrittenCase.smallBuffer a b = refl
 silent c n o WrittenCase.badState a b = refl
 silent c n o (WrittenCase.badArgument g) a b = refl
+silent c n o WrittenCase.notInImage a b = refl
 
 -- refused: one status reply
 pub one-reply : (c : Call) (n : ℕ) (o : Octets) → Written c n o → n ≡ 2 → OneReply c o
@@ -323,16 +334,18 @@ one-reply c n o WrittenCase.badPacket e = absurd (omega arith)
 one-reply c n o WrittenCase.smallBuffer e = absurd (omega arith)
 one-reply c n o WrittenCase.badState e = absurd (omega arith)
 one-reply c n o (WrittenCase.badArgument g) e = absurd (omega arith)
+one-reply c n o WrittenCase.notInImage e = absurd (omega arith)
 
--- the number is one of 0 to 7
-pub to-seven : (c : Call) (n : ℕ) (o : Octets) → Written c n o → n ≤ 7
-to-seven c n o WrittenCase.done = omega arith
-to-seven c n o WrittenCase.started = omega arith
-to-seven c n o (WrittenCase.refused r) = omega arith
-to-seven c n o WrittenCase.badPacket = omega arith
-to-seven c n o WrittenCase.smallBuffer = omega arith
-to-seven c n o WrittenCase.badState = omega arith
-to-seven c n o (WrittenCase.badArgument g) = omega arith
+-- the number is one of 0 to 8
+pub to-eight : (c : Call) (n : ℕ) (o : Octets) → Written c n o → n ≤ 8
+to-eight c n o WrittenCase.done = omega arith
+to-eight c n o WrittenCase.started = omega arith
+to-eight c n o (WrittenCase.refused r) = omega arith
+to-eight c n o WrittenCase.badPacket = omega arith
+to-eight c n o WrittenCase.smallBuffer = omega arith
+to-eight c n o WrittenCase.badState = omega arith
+to-eight c n o (WrittenCase.badArgument g) = omega arith
+to-eight c n o WrittenCase.notInImage = omega arith
 
 -- a load, by what it read
 load-written-by : (s : Octets) (x : Option PlainHub) → (loadAnswer (loadedInto s x .answer) ≡ true) × (loadedInto s x .octets ≡ [])

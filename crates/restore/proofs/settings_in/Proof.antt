@@ -40,15 +40,18 @@ add-six c = search needs
 six-requires-2 : tie.Need-six-requires-2
 six-requires-2 c κs = search needs
 
-add-t13 : tie.Need-add-t13
-add-t13 c = search needs
+add-t14 : tie.Need-add-t14
+add-t14 c = search needs
 
-shared-slice-read-t15 : tie.Need-shared-slice-read-t15
-shared-slice-read-t15 c = search needs
+shared-slice-read-t16 : tie.Need-shared-slice-read-t16
+shared-slice-read-t16 c = search needs
+
+bredr-supported-requires : tie.Need-bredr-supported-requires
+bredr-supported-requires c κs = search needs
 
 returns : tie.Need-returns
 unfolding settingsFrom noTimer
-returns c = let a = c .before .before .before .before .before .before .before .args in (cc) ∙ settings-from (a .image .now) (a .at)
+returns c = let a = c .before .before .before .before .before .before .before .before .args in (cc) ∙ settings-from (a .image .now) (a .at)
 
 pub settings-in-spec : {M : Type 1} → statement M
 settings-in-spec =
@@ -65,6 +68,7 @@ settings-in-spec =
     be32-at-requires-2
     add-six
     six-requires-2
-    add-t13
-    shared-slice-read-t15
+    add-t14
+    shared-slice-read-t16
+    bredr-supported-requires
     returns)

@@ -16,9 +16,6 @@ flag-of-requires-3 c κs = search needs
 flag-of-requires-4 : tie.Need-flag-of-requires-4
 flag-of-requires-4 c κs = search needs
 
-bredr-supported-requires : tie.Need-bredr-supported-requires
-bredr-supported-requires c κs = search needs
-
 flag-of-requires-5 : tie.Need-flag-of-requires-5
 flag-of-requires-5 c κs = search needs
 
@@ -61,7 +58,6 @@ current-settings-spec =
     flag-of-requires-2
     flag-of-requires-3
     flag-of-requires-4
-    bredr-supported-requires
     flag-of-requires-5
     flag-of-requires-6
     static-in-use-requires

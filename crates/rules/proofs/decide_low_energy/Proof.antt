@@ -29,27 +29,27 @@ unfolding decision beforeBusyOf afterBusyOf waitOrAct firstOf statusOf octet set
 returns-2 c =
     rw (
       le-ltb _ _ (c .before .before .before .before .before .before .if1 .left),
-      ←
-          c .before .before .before .before .le-supported .ensures,
+      ← c .before .before .before .before .le-supported .ensures,
       c .before .before .before .if2 .taken,
       ← c .before .before .bredr-supported .ensures,
-      ←
-          c .before .both .ensures,
+      ← c .before .both .ensures,
       c .if3 .taken,
     )
+
+both-requires-2 : tie.Need-both-requires-2
+both-requires-2 c κs = search needs
 
 returns-3 : tie.Need-returns-3
 unfolding decision beforeBusyOf afterBusyOf waitOrAct firstOf statusOf octet setLowEnergy on
 returns-3 c =
     rw (
-      le-ltb _ _ (c .before .before .before .before .before .before .before .if1 .left),
-      ←
-          c .before .before .before .before .before .le-supported .ensures,
-      c .before .before .before .before .if2 .taken,
-      ←
-          c .before .before .before .bredr-supported .ensures,
-      ← c .before .before .both .ensures,
-      c .before .if3 .left,
+      le-ltb _ _ (c .before .before .before .before .before .before .before .before .before .if1 .left),
+      ← c .before .before .before .before .before .before .before .le-supported .ensures,
+      c .before .before .before .before .before .before .if2 .taken,
+      ← c .before .before .before .before .before .bredr-supported .ensures,
+      ← c .before .before .before .before .both .ensures,
+      c .before .before .before .if3 .left,
+      ← c .before .both2 .ensures,
       c .if4 .taken,
     )
 
@@ -57,20 +57,35 @@ returns-4 : tie.Need-returns-4
 unfolding decision beforeBusyOf afterBusyOf waitOrAct firstOf statusOf octet setLowEnergy on
 returns-4 c =
     rw (
-      le-ltb _ _ (c .before .before .before .before .before .before .before .if1 .left),
-      ←
-          c .before .before .before .before .before .le-supported .ensures,
-      c .before .before .before .before .if2 .taken,
-      ←
-          c .before .before .before .bredr-supported .ensures,
-      ← c .before .before .both .ensures,
-      c .before .if3 .left,
-      c .if4 .left,
+      le-ltb _ _ (c .before .before .before .before .before .before .before .before .before .before .if1 .left),
+      ← c .before .before .before .before .before .before .before .before .le-supported .ensures,
+      c .before .before .before .before .before .before .before .if2 .taken,
+      ← c .before .before .before .before .before .before .bredr-supported .ensures,
+      ← c .before .before .before .before .before .both .ensures,
+      c .before .before .before .before .if3 .left,
+      ← c .before .before .both2 .ensures,
+      c .before .if4 .left,
+      c .if5 .taken,
     )
 
 returns-5 : tie.Need-returns-5
 unfolding decision beforeBusyOf afterBusyOf waitOrAct firstOf statusOf octet setLowEnergy on
-returns-5 c = rw (le-ltb _ _ (c .before .before .before .if1 .left), ← c .before .le-supported .ensures, c .if2 .left)
+returns-5 c =
+    rw (
+      le-ltb _ _ (c .before .before .before .before .before .before .before .before .before .before .if1 .left),
+      ← c .before .before .before .before .before .before .before .before .le-supported .ensures,
+      c .before .before .before .before .before .before .before .if2 .taken,
+      ← c .before .before .before .before .before .before .bredr-supported .ensures,
+      ← c .before .before .before .before .before .both .ensures,
+      c .before .before .before .before .if3 .left,
+      ← c .before .before .both2 .ensures,
+      c .before .if4 .left,
+      c .if5 .left,
+    )
+
+returns-6 : tie.Need-returns-6
+unfolding decision beforeBusyOf afterBusyOf waitOrAct firstOf statusOf octet setLowEnergy on
+returns-6 c = rw (le-ltb _ _ (c .before .before .before .if1 .left), ← c .before .le-supported .ensures, c .if2 .left)
 
 pub decide-low-energy-spec : {M : Type 1} → statement M
 decide-low-energy-spec =
@@ -82,6 +97,8 @@ decide-low-energy-spec =
     bredr-supported-requires
     both-requires
     returns-2
+    both-requires-2
     returns-3
     returns-4
-    returns-5)
+    returns-5
+    returns-6)

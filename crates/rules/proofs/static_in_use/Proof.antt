@@ -20,9 +20,17 @@ slice-aggregate-all-zero-2 c = search needs
 all-zero-requires-2 : tie.Need-all-zero-requires-2
 all-zero-requires-2 c κs = search needs
 
+either-requires : tie.Need-either-requires
+either-requires c κs = search needs
+
 returns-2 : tie.Need-returns-2
 unfolding staticInUse
-returns-2 c = rw (← c .before .before .before .before .before .all-zero .ensures, c .before .before .before .before .if1 .left) (c .all-zero2 .ensures)
+returns-2 c =
+    rw (
+      ← c .before .before .before .before .before .before .before .all-zero .ensures,
+      c .before .before .before .before .before .before .if1 .left,
+      ← c .before .before .all-zero2 .ensures,
+    ) (c .either .ensures)
 
 pub static-in-use-spec : {M : Type 1} → statement M
 static-in-use-spec =
@@ -33,4 +41,5 @@ static-in-use-spec =
     returns
     slice-aggregate-all-zero-2
     all-zero-requires-2
+    either-requires
     returns-2)

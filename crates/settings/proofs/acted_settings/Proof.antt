@@ -1,8 +1,8 @@
 -- `settings::acted_settings` meets its contract.
 use Prim.Native.Nat.{_-_}
 use Rattle.octets.proofs.Laws.{lent-part}
-use Rattle.settings.specs.Opens.{opens-powered, opens-discoverable, opens-connectable}
-use Rattle.settings.proofs.Bridge.{powered-size, discoverable-size, connectable-size, low-energy-size}
+use Rattle.settings.specs.Opens.{opens-powered, opens-discoverable, opens-connectable, opens-low-energy}
+use Rattle.settings.proofs.Bridge.{powered-size, discoverable-size, connectable-size, low-energy-size, bredr-size}
 use Rattle.settings.proofs.Reporting.{makes-by, makes-last}
 use borrow.Author.Needs.{needs}
 use Rattle.settings.proofs.acted_settings.Statement.{statement}
@@ -79,9 +79,27 @@ effect-low-energy-requires : tie.Need-effect-low-energy-requires
 effect-low-energy-requires c κs = search needs
 
 returns-4 : tie.Need-returns-4
-returns-4 c =
-    makes-last _ _ _ _ _ _ _ (c .before .before .before .before .if1 .left) (c .before .before .before .if2 .left) (c .before .before .if3 .left)
-    low-energy-size (lent-part _ _ _) (c .effect-low-energy .ensures)
+returns-4 c = makes-by _ _ _ _ _ _ _ _ _ opens-low-energy (c .before .before .if4 .taken) low-energy-size (lent-part _ _ _) (c .effect-low-energy .ensures)
+
+add-effect-bredr : tie.Need-add-effect-bredr
+add-effect-bredr c = search needs
+
+sub-effect-bredr : tie.Need-sub-effect-bredr
+sub-effect-bredr c = search needs
+
+part-effect-bredr-start : tie.Need-part-effect-bredr-start
+part-effect-bredr-start c = search needs
+
+part-effect-bredr-end : tie.Need-part-effect-bredr-end
+part-effect-bredr-end c = search needs
+
+effect-bredr-requires : tie.Need-effect-bredr-requires
+effect-bredr-requires c κs = search needs
+
+returns-5 : tie.Need-returns-5
+returns-5 c =
+    makes-last _ _ _ _ _ _ _ (c .before .before .before .before .before .if1 .left) (c .before .before .before .before .if2 .left)
+    (c .before .before .before .if3 .left) (c .before .before .if4 .left) bredr-size (lent-part _ _ _) (c .effect-bredr .ensures)
 
 pub acted-settings-spec : {M : Type 1} → statement M
 acted-settings-spec =
@@ -110,4 +128,10 @@ acted-settings-spec =
     part-effect-low-energy-start
     part-effect-low-energy-end
     effect-low-energy-requires
-    returns-4)
+    returns-4
+    add-effect-bredr
+    sub-effect-bredr
+    part-effect-bredr-start
+    part-effect-bredr-end
+    effect-bredr-requires
+    returns-5)

@@ -125,14 +125,14 @@ returns-17 : tie.Need-returns-17
 unfolding condition spelled
 returns-17 c = rw (c .before .before .before .before .before .enum-told17 .given .1) (c .before .before .put17 .ensures)
 
-put-value-condition-requires : tie.Need-put-value-condition-requires
-put-value-condition-requires c κs = (search needs, past-first _ (c .before .match .keys18))
+put-middle-condition-requires : tie.Need-put-middle-condition-requires
+put-middle-condition-requires c κs = (search needs, past-first _ (c .before .match .keys18))
 
 same-length-18 : tie.Need-same-length-18
 same-length-18 c = search needs
 
 returns-18 : tie.Need-returns-18
-returns-18 c = c .before .before .put-value-condition .ensures
+returns-18 c = c .before .before .put-middle-condition .ensures
 
 pub put-condition-spec : {M : Type 1} → statement M
 put-condition-spec =
@@ -155,7 +155,7 @@ put-condition-spec =
     (arm-15 .0) (arm-15 .1) (arm-15 .2)
     (arm-16 .0) (arm-16 .1) (arm-16 .2)
     (arm-17 .0) (arm-17 .1) (arm-17 .2)
-    put-value-condition-requires
+    put-middle-condition-requires
     (arm-1 .3) returns
     (arm-2 .3) returns-2
     (arm-3 .3) returns-3

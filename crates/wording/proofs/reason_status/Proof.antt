@@ -196,10 +196,25 @@ returns-48 : tie.Need-returns-48
 unfolding statusOf
 returns-48 c = rw (c .enum-told48 .given .1)
 
+returns-49 : tie.Need-returns-49
+unfolding statusOf
+returns-49 c = rw (c .enum-told49 .given .1)
+
+returns-50 : tie.Need-returns-50
+unfolding statusOf
+returns-50 c = rw (c .enum-told50 .given .1)
+
+returns-51 : tie.Need-returns-51
+unfolding statusOf
+returns-51 c = rw (c .enum-told51 .given .1)
+
 pub reason-status-spec : {M : Type 1} → statement M
 reason-status-spec =
     tie.close
     (tie.spec
+    (λ c. search needs)
+    (λ c. search needs)
+    (λ c. search needs)
     (λ c. search needs)
     (λ c. search needs)
     (λ c. search needs)
@@ -295,4 +310,7 @@ reason-status-spec =
     returns-45
     returns-46
     returns-47
-    returns-48)
+    returns-48
+    returns-49
+    returns-50
+    returns-51)
