@@ -1,7 +1,7 @@
 /*
  * A small host that plays a shift: it starts from an image or fresh, plugs two controllers, powers them with a slow radio while two clients
- * interleave, loads keys, shows on a display where the devices stand that come and go, names a controller, advertises in turns while the clock
- * runs, saves by write-then-rename, loads again and shows the name. Every call is printed in words with its octets, and after it what is on air, as
+ * interleave, loads keys, shows on a display where the devices stand that come and go, runs a controller on Low Energy alone, names another,
+ * advertises in turns while the clock runs, saves by write-then-rename, loads again and shows the name. Every call is printed in words with its octets, and after it what is on air, as
  * the radio asks for it, where that has changed. Behind a refused command stands why the hub refuses it, in the log too.
  *
  *     host [IMAGE [LOG]]      IMAGE is read if it is there, and written at the end; LOG gets every packet (call_log.h)
@@ -27,7 +27,8 @@ static struct {
 
 static const char *answer_name(unsigned answer)
 {
-    static const char *const names[] = { "done", "started", "refused", "bad packet", "small buffer", "bad state", "bad argument", "bad image" };
+    static const char *const names[] = { "done", "started", "refused", "bad packet", "small buffer", "bad state", "bad argument", "bad image",
+                                         "not in an image" };
     return answer < sizeof names / sizeof names[0] ? names[answer] : "?";
 }
 
@@ -287,6 +288,19 @@ static void set_static_address(void)
     send("B", "sets the static address D4:E7:03:5A:81:2F at controller 1", 0x002B, 1, drawn, sizeof drawn);
 }
 
+/* Controller 1, a tyre hub with both transports, is to run on Low Energy alone. An image cannot say that, so there is none before it is unplugged. */
+static void low_energy_alone(void)
+{
+    static const uint8_t for_good[3] = { 1, 0, 0 };
+    send_octet("A", "turns BR/EDR of controller 0 off, which is powered: refused", 0x002A, 0, 0);
+    send_octet("B", "turns BR/EDR of controller 1 off", 0x002A, 1, 0);
+    send_octet("B", "sets controller 1 connectable", 0x0007, 1, 1);
+    send("B", "sets controller 1 discoverable: refused without BR/EDR", 0x0006, 1, for_good, sizeof for_good);
+    set_static_address();
+    send_octet("A", "turns BR/EDR of controller 1 on beside its static address: refused", 0x002A, 1, 1);
+    told("Save while controller 1 is so", hub_save(state, sizeof state, reply, sizeof reply));
+}
+
 /* A client names controller 0. */
 static void set_name(const char *client, const char *name, const char *short_name)
 {
@@ -366,7 +380,7 @@ static int shift(const char *path)
     clock_reads(1000);
     interleave();
     load_keys();
-    set_static_address();
+    low_energy_alone();
     set_name("A", "The plough on line 7", "Plough 7");
     advertise();
     clock_reads(1029);

@@ -132,8 +132,8 @@ static int why(int count, char **arguments)
     if (hub_answer(result) != HUB_DONE)
         return wrong("the library answers %u", hub_answer(result));
     if (is_image)
-        fprintf(stderr, "hub: %s is an image: the answer is that of a hub just loaded from it, with power off, no advertising\n"
-                "instances and nothing under way\n", arguments[0]);
+        fprintf(stderr, "hub: %s is an image: the answer is that of a hub just loaded from it, with power off, BR/EDR on where it is\n"
+                "supported, no advertising instances and nothing under way\n", arguments[0]);
     if (hub_extra(result) != 0)
         printf("would be refused, status 0x%02X: ", (unsigned)hub_extra(result));
     printf("%.*s\n", (int)hub_count(result), (const char *)text);

@@ -22,6 +22,8 @@ mod states;
 mod turns;
 
 use cases::Case;
+use compare::br_edr::switched_hubs;
+use compare::layout::encode;
 use compare::Target;
 use library::Library;
 use reference::Hub;
@@ -222,6 +224,16 @@ fn judged_alike(data: &Data) {
     println!("well_formed agrees on every octet of {} changed", data.name);
 }
 
+/// Every state of a controller's switches, with and without a command under way, is judged alike.
+fn switches_judged_alike() {
+    let mut states = 0;
+    for mut state in switched_hubs().map(|hub| encode(&hub)) {
+        states += 1;
+        assert_eq!(well_formed(&mut state), plain::well_formed(&state), "state {states} of the switches");
+    }
+    println!("well_formed agrees on {states} states of the switches");
+}
+
 /// Everything that is timed beside plain Rust.
 fn beside_plain(data: &[Data]) {
     let mut seen = Seen { worst: (0.0, String::new()), full: (f64::INFINITY, 0.0), read: read() };
@@ -234,6 +246,7 @@ fn beside_plain(data: &[Data]) {
     turns::all(&mut seen);
     data.iter().filter(|d| d.used == 32).for_each(judged_alike);
     judged_alike(&instances());
+    switches_judged_alike();
     let (least, most) = seen.full;
     println!(
         "the test of a full state takes {:.1} memcmp; the slowest kind takes {:.2} times as long as the quickest",

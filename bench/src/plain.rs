@@ -4,6 +4,11 @@
 
 use crate::states::{BLOCK, DATA, DURATIONS, LEFT, ON_AIR, SCAN, SIZES, STATE, TIMEOUTS, WORDS};
 
+/// Where the discoverable timer and the static address stand in a block. The six flags before them are power, connectable, discoverable, bondable, BR/EDR
+/// and Low Energy.
+const TIMER: usize = 25;
+const STATIC: usize = 27;
+
 /// Whether lent octets are a well-formed state.
 pub fn well_formed(s: &[u8]) -> bool {
     s.len() == STATE && s[4..].chunks_exact(BLOCK).all(block)
@@ -23,23 +28,26 @@ fn block(b: &[u8]) -> bool {
 fn controller(b: &[u8]) -> bool {
     let supported = u32::from_le_bytes(b[9..13].try_into().unwrap());
     let (bredr, le) = (supported & 0x80 != 0, supported & 0x200 != 0);
-    let (public, fixed) = (zero(&b[13..19]), zero(&b[26..32]));
+    let (public, fixed) = (zero(&b[13..19]), zero(&b[STATIC..STATIC + 6]));
     let hardware = supported < 0x10000 && (bredr || le) && !(bredr && public);
-    let flags = b[19..24].iter().all(|&x| x < 2);
-    let [powered, connectable, discoverable, _, low_energy] = [19, 20, 21, 22, 23].map(|k| b[k] == 1);
-    let timer = u16::from_le_bytes([b[24], b[25]]) != 0;
-    let radio =
-        (bredr || low_energy) && (le || (!low_energy && fixed)) && (fixed || static_random(&b[26..32]));
-    let fit = (!discoverable || connectable)
+    let flags = b[19..25].iter().all(|&x| x < 2);
+    let [powered, connectable, discoverable, _, classic, low_energy] =
+        [19, 20, 21, 22, 23, 24].map(|k| b[k] == 1);
+    let timer = number(b, TIMER) != 0;
+    let radio = (classic || low_energy)
+        && (bredr || !classic)
+        && (le || (!low_energy && fixed))
+        && (fixed || static_random(&b[STATIC..STATIC + 6]));
+    let fit = (!discoverable || (connectable && classic))
         && (!timer || (powered && discoverable))
         && (!powered || !(public && fixed));
     hardware
         && flags
         && radio
         && fit
-        && b[280] == 0
-        && b[291] == 0
-        && open(b, bredr, le, powered, connectable, public && fixed)
+        && b[281] == 0
+        && b[292] == 0
+        && open(b, bredr, le)
         && (0..6).all(|t| table(t, &b[WORDS[t]..], bredr, le))
         && advertising(b, powered, low_energy)
 }
@@ -74,17 +82,20 @@ fn data(d: &[u8], there: bool) -> bool {
 }
 
 /// The open command: none, or one that would now be started.
-fn open(b: &[u8], bredr: bool, le: bool, powered: bool, connectable: bool, nameless: bool) -> bool {
-    let timeout = u16::from_le_bytes([b[4], b[5]]);
-    match u16::from_le_bytes([b[1], b[2]]) {
+fn open(b: &[u8], bredr: bool, le: bool) -> bool {
+    let [powered, connectable, classic, low_energy] = [19, 20, 23, 24].map(|k| b[k] == 1);
+    let (fixed, timeout) = (zero(&b[STATIC..STATIC + 6]), number(b, 4));
+    let value = b[3] < 2 && timeout == 0;
+    match number(b, 1) {
         0 => zero(&b[3..6]),
-        0x05 => b[3] < 2 && timeout == 0 && (b[3] == 1) != powered && !(b[3] == 1 && nameless),
+        0x05 => value && (b[3] == 1) != powered && !(b[3] == 1 && fixed && zero(&b[13..19])),
         0x06 => {
             let value = b[3] < 3 && (b[3] != 0 || timeout == 0) && (b[3] != 2 || timeout != 0);
-            value && bredr && powered && (b[3] == 0 || connectable)
+            value && bredr && powered && (b[3] == 0 || (connectable && classic))
         }
-        0x07 => b[3] < 2 && timeout == 0 && powered,
-        0x0D => b[3] < 2 && timeout == 0 && le && powered && (b[3] == 1 || bredr),
+        0x07 => value && powered,
+        0x0D => value && le && powered && (b[3] == 1 || classic),
+        0x2A => value && b[3] == 1 && bredr && le && powered && fixed && low_energy,
         _ => false,
     }
 }
@@ -207,19 +218,19 @@ fn event(code: u8, index: usize, parameters: &[u8], reply: &mut [u8]) -> usize {
 
 /// The discoverable timer: one that ends turns discoverable off and writes New Settings.
 fn timer(b: &mut [u8], i: usize, step: u32, reply: &mut [u8]) -> usize {
-    let left = u32::from(number(b, 24));
+    let left = u32::from(number(b, TIMER));
     let ends = left != 0 && left <= step;
     if left > step {
-        b[24..26].copy_from_slice(&((left - step) as u16).to_le_bytes());
+        b[TIMER..TIMER + 2].copy_from_slice(&((left - step) as u16).to_le_bytes());
     }
     if !ends {
         return 0;
     }
-    b[24..26].fill(0);
+    b[TIMER..TIMER + 2].fill(0);
     b[21] = 0;
-    let fixed = !zero(&b[26..32]) && zero(&b[13..19]);
-    let low = b[19] | b[20] << 1 | b[22] << 4 | b[9] & 0x80;
-    event(6, i, &[low, b[23] << 1 | u8::from(fixed) << 7, 0, 0], reply)
+    let fixed = !zero(&b[STATIC..STATIC + 6]) && (zero(&b[13..19]) || b[23] == 0);
+    let low = b[19] | b[20] << 1 | b[22] << 4 | b[23] << 7;
+    event(6, i, &[low, b[24] << 1 | u8::from(fixed) << 7, 0, 0], reply)
 }
 
 /// The instance above, and 1 above 5.

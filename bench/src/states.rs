@@ -1,21 +1,21 @@
 //! States laid out by hand (docs/STATE-LAYOUT.md): so many controllers, so many records of a kind in every table of each.
 
-pub const STATE: usize = 17488;
-pub const BLOCK: usize = 4371;
+pub const STATE: usize = 17492;
+pub const BLOCK: usize = 4372;
 /// Record sizes of the six tables, in their order.
 pub const SIZES: [usize; 6] = [17, 25, 36, 23, 7, 8];
 /// Where the word of each table stands in a block.
-pub const WORDS: [usize; 6] = [292, 840, 1644, 2800, 3540, 3768];
+pub const WORDS: [usize; 6] = [293, 841, 1645, 2801, 3541, 3769];
 
 /// Where advertising begins in a block, and where its parts stand: durations and timeouts of five instances, two octets each, the one on air, the
 /// seconds left of its turn, and five times a length and 31 octets of data, then of scan response.
-pub const ADVERTISING: usize = 4028;
-pub const DURATIONS: usize = 4028;
-pub const TIMEOUTS: usize = 4038;
-pub const ON_AIR: usize = 4048;
-pub const LEFT: usize = 4049;
-pub const DATA: usize = 4051;
-pub const SCAN: usize = 4211;
+pub const ADVERTISING: usize = 4029;
+pub const DURATIONS: usize = 4029;
+pub const TIMEOUTS: usize = 4039;
+pub const ON_AIR: usize = 4049;
+pub const LEFT: usize = 4050;
+pub const DATA: usize = 4052;
+pub const SCAN: usize = 4212;
 
 /// Durations and timeouts of five instances in seconds; a duration of 0 is an instance that is absent.
 #[derive(Clone, Copy)]
@@ -158,7 +158,7 @@ pub fn state(kind: Kind, used: usize) -> Vec<u8> {
         b[6] = 9;
         b[9..11].copy_from_slice(&[0x81, 0x02]);
         b[13..19].copy_from_slice(&[i as u8 + 1, 2, 3, 4, 5, 6]);
-        b[23] = 1;
+        b[23..25].fill(1);
         for (t, (&size, &at)) in SIZES.iter().zip(&WORDS).enumerate() {
             let mut word = 0u32;
             for n in 0..used {

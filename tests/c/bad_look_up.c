@@ -9,7 +9,7 @@
 
 enum { TABLES = 6, SLOTS = 32, NONE = -1, LONGEST = 70000, FULL = 0, ABSENT = 1, EMPTY = 2, SOME = 3 };
 
-static const unsigned words[TABLES] = { 292, 840, 1644, 2800, 3540, 3768 }; /* where each table's word stands in a block; slot 0 is 4 octets behind */
+static const unsigned words[TABLES] = { 293, 841, 1645, 2801, 3541, 3769 }; /* where each table's word stands in a block; slot 0 is 4 octets behind */
 static const unsigned records[TABLES] = { 17, 25, 36, 23, 7, 8 };
 
 /* A hub with full tables at FULL, free ones at EMPTY and five entries in each at SOME, where link keys are not supported; and the entry of each slot. */
@@ -210,8 +210,8 @@ static void try_zero_record(unsigned index, unsigned table, unsigned slot)
 /* Broken states: flags that are none, and every slot of every table, at FULL and where there are gaps. */
 static void try_broken(unsigned index)
 {
-    static const size_t flags[] = { 0, 19, 20, 21, 22, 23 };
-    for (int i = 0; i < 6; i++) {
+    static const size_t flags[] = { 0, 19, 20, 21, 22, 23, 24 };
+    for (int i = 0; i < 7; i++) {
         struct lent state = lend_changed(index, flags[i], 2);
         try_no_state("flag", flags[i], &state);
         take_back(state);

@@ -125,6 +125,8 @@ int main(void)
     right = right && tells(MGMT_EV_CMD_STATUS, 0, MGMT_OP_SET_CONNECTABLE, MGMT_STATUS_BUSY) && told(MGMT_STATUS_BUSY);
     right = right && hub_answer(hub_report(state, sizeof state, 0, MGMT_STATUS_SUCCESS, reply, sizeof reply)) == HUB_DONE;
     right = right && tells(MGMT_EV_CMD_COMPLETE, 0, MGMT_OP_SET_POWERED, MGMT_STATUS_SUCCESS);
+    right = right && hub_answer(send_mode(MGMT_OP_SET_BREDR, 0, 1, 0)) == HUB_REFUSED;
+    right = right && tells(MGMT_EV_CMD_STATUS, 0, MGMT_OP_SET_BREDR, MGMT_STATUS_REJECTED) && told(MGMT_STATUS_REJECTED);
     right = right && hub_answer(send_advertising(1)) == HUB_DONE && tells(MGMT_EV_CMD_COMPLETE, 0, MGMT_OP_ADD_ADVERTISING, MGMT_STATUS_SUCCESS);
     right = right && reply[MGMT_HDR_SIZE + sizeof(struct mgmt_ev_cmd_complete) + 1] == MGMT_EV_ADVERTISING_ADDED;
     right = right && hub_count(hub_on_air(state, sizeof state, 0, reply, sizeof reply)) == 3 + 3 && reply[0] == 1;

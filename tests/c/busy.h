@@ -18,18 +18,25 @@
  */
 enum {
     FIRST_BLOCK = 4,
-    BLOCK = 4371,
+    BLOCK = 4372,
+    AT_OPEN = 1,
+    AT_SUPPORTED = 9,
+    AT_PUBLIC = 13,
     AT_POWERED = 19,
-    AT_LOW_ENERGY = 23,
-    AT_STATIC = 26,
-    AT_LONG_TERM = 1648,
-    AT_IDENTITY = 2804,
-    AT_DURATION = 4026,
-    AT_TIMEOUT = 4036,
-    AT_ON_AIR = 4048,
-    AT_LEFT = 4049,
-    AT_DATA = 4019,
-    AT_SCAN = 4179
+    AT_CONNECTABLE = 20,
+    AT_DISCOVERABLE = 21,
+    AT_BREDR = 23,
+    AT_LOW_ENERGY = 24,
+    AT_TIMER = 25,
+    AT_STATIC = 27,
+    AT_LONG_TERM = 1649,
+    AT_IDENTITY = 2805,
+    AT_DURATION = 4027,
+    AT_TIMEOUT = 4037,
+    AT_ON_AIR = 4049,
+    AT_LEFT = 4050,
+    AT_DATA = 4020,
+    AT_SCAN = 4180
 };
 
 /* A command packet; the longest list has 32 long term keys. */

@@ -63,6 +63,19 @@ static void look_up(void)
     expect("no slot in a number", hub_slot((uint64_t)0x0120 << 32), HUB_SLOTS);
 }
 
+/* A save while controller 3 has BR/EDR turned off, and one with it on again. */
+static void not_in_image(void)
+{
+    uint8_t packet[7] = { 0x2A, 0, 3, 0, 1, 0, 0 };
+    expect("BR/EDR off", hub_answer(hub_command(state, HUB_STATE_LEN, packet, sizeof packet, reply, HUB_REPLY_MIN)), HUB_DONE);
+    expect("image one octet short, BR/EDR off", hub_answer(hub_save(state, HUB_STATE_LEN, reply, HUB_IMAGE_MAX - 1)), HUB_SMALL_BUFFER);
+    expect("save, BR/EDR off", (unsigned)hub_save(state, HUB_STATE_LEN, reply, HUB_IMAGE_MAX), HUB_NOT_IN_IMAGE);
+    expect("its number", HUB_NOT_IN_IMAGE, 8);
+    packet[6] = 1;
+    expect("BR/EDR on", hub_answer(hub_command(state, HUB_STATE_LEN, packet, sizeof packet, reply, HUB_REPLY_MIN)), HUB_DONE);
+    expect("save, BR/EDR on", hub_answer(hub_save(state, HUB_STATE_LEN, reply, HUB_IMAGE_MAX)), HUB_DONE);
+}
+
 int main(void)
 {
     uint8_t changed[sizeof empty];
@@ -79,8 +92,8 @@ int main(void)
     expect("its count", (unsigned)hub_count(result), 12);
     expect("its second number", hub_extra(result), 0);
     result = hub_command(state, HUB_STATE_LEN, commands, 6, reply, HUB_REPLY_MIN);
-    expect("read commands", (unsigned)hub_count(result), 6 + 3 + 4 + 2 * 21 + 2 * 12);
-    expect("its commands", reply[9], 21);
+    expect("read commands", (unsigned)hub_count(result), 6 + 3 + 4 + 2 * 22 + 2 * 12);
+    expect("its commands", reply[9], 22);
     expect("its events", reply[11], 12);
     expect("five octets", hub_answer(hub_command(state, HUB_STATE_LEN, version, 5, reply, HUB_REPLY_MIN)), HUB_BAD_PACKET);
     expect("image one octet short", hub_answer(hub_save(state, HUB_STATE_LEN, reply, HUB_IMAGE_MAX - 1)), HUB_SMALL_BUFFER);
@@ -93,6 +106,7 @@ int main(void)
     expect("on air", hub_answer(result), HUB_DONE);
     expect("its count", (unsigned)hub_count(result), 0);
     expect("on air, reply one octet short", hub_answer(hub_on_air(state, HUB_STATE_LEN, 3, reply, HUB_REPLY_MIN - 1)), HUB_SMALL_BUFFER);
+    not_in_image();
     why();
     look_up();
     state[5] = 1;

@@ -8,7 +8,7 @@
 #include "busy.h"
 
 enum { COMMAND, REPORT, CLOCK, UNPLUG, SAVE, ON_AIR, WHY, LOOK_UP, CALLS };
-enum { COMMANDS = 23, FILLER = 0xA5 };
+enum { COMMANDS = 25, FILLER = 0xA5 };
 
 static const char *const call_names[CALLS] = { "command", "report", "clock", "unplug", "save", "on air", "why", "look-up" };
 static uint8_t *base, *changed;       /* the busy state, and that with one octet changed */
@@ -28,6 +28,8 @@ static void make_packets(unsigned index)
     make_packet(p++, 0x0007, index, 1);
     make_packet(p++, 0x0009, index, 1);
     make_packet(p++, 0x000D, index, 1);
+    make_packet(p++, 0x002A, index, 1);
+    *make_packet(p++, 0x002A, index, 1) = 1;
     make_packet(p++, 0x002B, index, 6);
     local_name(p++, index, 'z');
     add_uuid(p++, index, 40);
@@ -90,6 +92,8 @@ static int may_answer(int call, unsigned answer)
     case HUB_STARTED:
     case HUB_REFUSED:
         return call == COMMAND;
+    case HUB_NOT_IN_IMAGE:
+        return call == SAVE;
     case HUB_BAD_ARGUMENT:
         return call == REPORT || call == CLOCK || call == UNPLUG || call == ON_AIR || call == LOOK_UP;
     default:
@@ -107,6 +111,13 @@ static int may_give(int call, uint64_t result)
     return hub_walked(result) <= HUB_SLOTS && (hub_slot(result) == HUB_SLOTS || hub_slot(result) + 1 == hub_walked(result));
 }
 
+/* Whether the state is one that save takes, be there an image of it or not. */
+static int saved(void)
+{
+    unsigned answer = hub_answer(hub_save(state, HUB_STATE_LEN, room, HUB_IMAGE_MAX));
+    return answer == HUB_DONE || answer == HUB_NOT_IN_IMAGE;
+}
+
 /* What is wrong with a call's result and with what it left, or null. */
 static const char *fault(int call, uint64_t result)
 {
@@ -121,9 +132,9 @@ static const char *fault(int call, uint64_t result)
         return "octets written past the count";
     if (!same && (call == SAVE || call == ON_AIR || call == WHY || call == LOOK_UP || answer > HUB_STARTED))
         return "a state changed by a call that is refused";
-    if (!same && hub_answer(hub_save(state, HUB_STATE_LEN, room, HUB_IMAGE_MAX)) != HUB_DONE)
+    if (!same && !saved())
         return "a state left that the next call does not take";
-    if (answer != HUB_BAD_STATE && call == SAVE && hub_answer(hub_load(state, HUB_STATE_LEN, room, count)) != HUB_DONE)
+    if (answer == HUB_DONE && call == SAVE && hub_answer(hub_load(state, HUB_STATE_LEN, room, count)) != HUB_DONE)
         return "an image that cannot be loaded";
     return NULL;
 }

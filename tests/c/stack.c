@@ -101,13 +101,15 @@ static unsigned commands(void)
     *make_packet(&packet, 0x0007, 2, 1) = 1;
     worst = most(worst, command_takes(&packet, HUB_REFUSED));
     must("a report", hub_report(base, sizeof base, 2, 3, reply, sizeof reply), HUB_DONE); /* nothing is under way at 2, which has no power */
+    worst = most(worst, command_takes(&packet, HUB_DONE));
+    make_packet(&packet, 0x002A, 2, 1);
     return most(worst, command_takes(&packet, HUB_DONE));
 }
 
 /* The question why: of lists with no fault and with one found late, of names in full tables, of settings, and of a packet that is refused at once. */
 static unsigned whys(void)
 {
-    struct packet packets[7];
+    struct packet packets[8];
     unsigned worst = 0;
     long_term_keys(&packets[0], 3, 32);
     link_keys(&packets[1], 0, 32);
@@ -117,7 +119,8 @@ static unsigned whys(void)
     make_packet(&packets[4], 0x0007, 2, 1);
     add_instance(&packets[5], 2, 3, 9, 9, 31, 31);
     make_packet(&packets[6], 0xFFFF, 9, 0);
-    for (int i = 0; i < 7; i++) {
+    make_packet(&packets[7], 0x002A, 3, 1);
+    for (int i = 0; i < 8; i++) {
         uint64_t args[10] = { ARG(state), HUB_STATE_LEN, ARG(packets[i].octets), packets[i].length, ARG(reply), 256 };
         worst = most(worst, takes((entry)hub_why, args, HUB_DONE));
     }

@@ -10,7 +10,7 @@
 
 #include "busy.h"
 
-enum { ROUNDS = 8, TRIES = 25, OCTETS = 16, ENTRIES = 11, WHY = 9, LOOK_UP = 10, COMMANDS = 21, INPUTS = 33 + COMMANDS + 3 + 12 };
+enum { ROUNDS = 8, TRIES = 25, OCTETS = 16, ENTRIES = 11, WHY = 9, LOOK_UP = 10, COMMANDS = 22, INPUTS = 34 + COMMANDS + 3 + 12 };
 
 /* A call: an entry by its number, a packet for a command and for the question why, a key with its table for a look-up, a reading for the clock, or an index. */
 struct input {
@@ -169,6 +169,7 @@ static void make_inputs(unsigned octet)
     local_name(&input(0, 3)->packet, 3, 'w');
     make_packet(&input(0, 3)->packet, 0x0004, 3, 0);
     make_packet(&input(0, 3)->packet, 0x0009, 3, 1);
+    *make_packet(&input(0, 3)->packet, 0x002A, 3, 1) = 1;
     make_packet(&input(0, 3)->packet, 0x0002, 0xFFFF, 0);
     add_instance(&input(0, 3)->packet, 3, 1, 9, 9, 31, 31);
     add_instance(&input(0, 3)->packet, 3, 5, 9, 9, 31, 31);

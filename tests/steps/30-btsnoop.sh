@@ -88,6 +88,7 @@ while read -r line; do says "$line"; done << 'WORDS'
 @ MGMT Event: New Settings (0x0006) plen 4 {0x0001} [hci0]
 @ MGMT Event: New Settings (0x0006) plen 4 {0x0002} [hci0]
 @ MGMT Command: Load Long Term Keys (0x0013) plen 74 {0x0001} [hci0]
+@ MGMT Command: Set BR/EDR (0x002a) plen 1 {0x0002} [hci1]
 @ MGMT Event: Device Added (0x001a) plen 8 {0x0002} [hci0]
 @ MGMT Command: Remove Device (0x0034) plen 7 {0x0001} [hci0]
 @ MGMT Event: Device Removed (0x001b) plen 7 {0x0002} [hci0]

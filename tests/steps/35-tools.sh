@@ -43,7 +43,7 @@ tries() { # CODE OUTPUT ERROR-OUTPUT ARGUMENTS
 }
 # The same where the hub is an image, and where it is a state.
 image() { # CODE OUTPUT PACKET
-    local note="hub: plough.image is an image: the answer is that of a hub just loaded from it, with power off, no advertising\ninstances and nothing under way\n"
+    local note="hub: plough.image is an image: the answer is that of a hub just loaded from it, with power off, BR/EDR on where it is\nsupported, no advertising instances and nothing under way\n"
     tries "$1" "$2\n" "$note" why plough.image "${@:3}"
     tries "$1" "$2\n" "" why idle.state "${@:3}"
 }

@@ -17,10 +17,14 @@ fn reasons(code: u16) -> &'static [Reason] {
             DiscoverableUnpowered,
             Busy,
             NotConnectable,
+            BrEdrOff,
         ],
         code::SET_CONNECTABLE => &[SettingValue, Busy],
         code::SET_BONDABLE => &[SettingValue],
-        code::SET_LOW_ENERGY => &[SettingValue, NoLowEnergy, Busy, OnlyLowEnergy],
+        code::SET_LOW_ENERGY => &[SettingValue, NoLowEnergy, Busy, OnlyLowEnergy, BrEdrOff],
+        code::SET_BR_EDR => {
+            &[SettingValue, NoBrEdr, NoLowEnergy, Busy, BrEdrPowered, StaticAddressSet, LowEnergyOff]
+        }
         code::SET_STATIC_ADDRESS => &[StaticAddress, NoLowEnergy, Busy, Powered],
         code::SET_LOCAL_NAME => &[NameEnd, ShortNameEnd],
         _ => list_reasons(code),
@@ -85,6 +89,7 @@ pub fn expected_refusals() -> Vec<(String, String)> {
         ("report", "ReportStatus"),
         ("clock", "ClockStep"),
         ("unplug", "Absent"),
+        ("save", "NotInImage"),
         ("no packet", "Short"),
         ("no packet", "LengthField"),
         ("unknown code", "UnknownCommand"),
@@ -100,14 +105,18 @@ pub fn expected_refusals() -> Vec<(String, String)> {
 /// shows: the first answers.
 pub fn expected_orders() -> Vec<(String, String, String)> {
     let values = [Instance, AdvertisingFlags, AdvertisingLength, ScanResponseLength];
-    let pairs: [(u16, &[Reason], &[Reason]); 13] = [
+    let pairs: [(u16, &[Reason], &[Reason]); 17] = [
         (code::SET_POWERED, &[SettingValue], &[Busy]),
         (code::SET_DISCOVERABLE, &[DiscoverableValue, TimeoutGiven, TimeoutMissing], &[NoBrEdr, Busy]),
         (code::SET_DISCOVERABLE, &[TimeoutMissing, NoBrEdr, DiscoverableUnpowered, Busy], &[NotConnectable]),
+        (code::SET_DISCOVERABLE, &[TimeoutMissing, DiscoverableUnpowered, Busy], &[BrEdrOff]),
         (code::SET_DISCOVERABLE, &[DiscoverableValue, TimeoutGiven, NoBrEdr], &[DiscoverableUnpowered]),
         (code::SET_DISCOVERABLE, &[NoBrEdr, DiscoverableUnpowered], &[Busy]),
         (code::SET_LOW_ENERGY, &[SettingValue, NoLowEnergy], &[Busy]),
-        (code::SET_LOW_ENERGY, &[Busy], &[OnlyLowEnergy]),
+        (code::SET_LOW_ENERGY, &[Busy], &[OnlyLowEnergy, BrEdrOff]),
+        (code::SET_BR_EDR, &[SettingValue, NoBrEdr, NoLowEnergy], &[Busy]),
+        (code::SET_BR_EDR, &[NoBrEdr, Busy], &[BrEdrPowered, StaticAddressSet]),
+        (code::SET_BR_EDR, &[NoLowEnergy, Busy], &[BrEdrPowered, LowEnergyOff]),
         (code::SET_STATIC_ADDRESS, &[StaticAddress, NoLowEnergy, Busy], &[Powered]),
         (code::SET_STATIC_ADDRESS, &[StaticAddress, NoLowEnergy], &[Busy]),
         (code::LOAD_LINK_KEYS, &[TooManyRecords, DebugFlag, LinkKeyType, Repeated], &[NoBrEdr]),
@@ -115,7 +124,7 @@ pub fn expected_orders() -> Vec<(String, String, String)> {
         (code::UNPAIR, &[AddressType, Disconnect, NotPowered], &[NotPaired]),
         (code::ADD_ADVERTISING, &values, &[LowEnergyOff, TimeoutUnpowered]),
     ];
-    let mut out = Vec::new();
+    let mut out = vec![("save".into(), "Room".into(), "NotInImage".into())];
     for (code, firsts, seconds) in pairs {
         for (first, second) in
             firsts.iter().flat_map(|first| seconds.iter().map(move |second| (first, second)))

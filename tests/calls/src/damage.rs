@@ -163,7 +163,7 @@ fn damage_field(random: &mut Random, controller: &mut ControllerDraft, kind: Dam
         }
         Damage::Flags => {
             let others: Vec<u32> = (0..32).filter(|bit| ![1, 4, 9].contains(bit)).collect();
-            controller.flags |= 1 << random.pick(&others);
+            controller.flags |= if random.percent(40) { setting::BR_EDR } else { 1 << random.pick(&others) };
         }
         Damage::LowEnergyOn => controller.flags |= setting::LOW_ENERGY,
         Damage::LowEnergyOff => controller.flags &= !setting::LOW_ENERGY,

@@ -1,11 +1,13 @@
 //! Random lists of calls that follow a hub, so that most calls mean something.
 
+use crate::br_edr;
 use crate::instances;
 use crate::parameters;
 use crate::pools;
 use crate::random::Random;
 use crate::spoiling::spoil_parameters;
 use reference::codes::{command as code, CONTROLLERS, NON_CONTROLLER};
+use reference::controller::Controller;
 use reference::packet::frame;
 use reference::{Call, Hub};
 
@@ -26,12 +28,14 @@ enum Mood {
     Keys,
     /// Advertising instances come, change and go, and the clock.
     Advertising,
+    /// BR/EDR goes off and on, with what stands against it and what it stands against, and saves.
+    BrEdr,
     /// Everything alike.
     Mixed,
 }
 
 /// All moods.
-const MOODS: [Mood; 8] = [
+const MOODS: [Mood; 9] = [
     Mood::Settings,
     Mood::Waiting,
     Mood::Timers,
@@ -39,11 +43,12 @@ const MOODS: [Mood; 8] = [
     Mood::Draining,
     Mood::Keys,
     Mood::Advertising,
+    Mood::BrEdr,
     Mood::Mixed,
 ];
 
 /// The commands to a controller, in the order of the weights below.
-const CODES: [u16; 20] = [
+const CODES: [u16; 21] = [
     code::READ_INFORMATION,
     code::SET_POWERED,
     code::SET_DISCOVERABLE,
@@ -64,20 +69,22 @@ const CODES: [u16; 20] = [
     code::REMOVE_DEVICE,
     code::ADD_ADVERTISING,
     code::REMOVE_ADVERTISING,
+    code::SET_BR_EDR,
 ];
 
 impl Mood {
     /// How often each command comes.
-    fn weights(self) -> [usize; 20] {
+    fn weights(self) -> [usize; 21] {
         match self {
-            Mood::Settings => [3, 12, 16, 7, 3, 6, 5, 2, 1, 1, 1, 1, 1, 2, 1, 1, 1, 1, 5, 1],
-            Mood::Waiting => [3, 8, 8, 8, 4, 8, 8, 3, 3, 3, 2, 2, 2, 3, 3, 3, 3, 3, 6, 2],
-            Mood::Timers => [1, 12, 40, 8, 1, 1, 1, 1, 1, 1, 1, 1, 1, 1, 1, 1, 1, 1, 6, 1],
-            Mood::Filling => [1, 2, 2, 1, 1, 1, 1, 1, 16, 1, 1, 1, 1, 1, 16, 1, 16, 1, 1, 1],
-            Mood::Draining => [1, 2, 1, 1, 1, 1, 1, 1, 5, 12, 1, 1, 1, 6, 5, 12, 5, 12, 1, 1],
-            Mood::Keys => [1, 6, 1, 1, 1, 1, 1, 1, 1, 1, 8, 8, 8, 16, 1, 1, 1, 1, 1, 1],
-            Mood::Advertising => [1, 6, 2, 2, 1, 3, 1, 1, 1, 1, 1, 1, 1, 1, 1, 1, 1, 1, 50, 18],
-            Mood::Mixed => [1; 20],
+            Mood::Settings => [3, 12, 16, 7, 3, 6, 5, 2, 1, 1, 1, 1, 1, 2, 1, 1, 1, 1, 5, 1, 7],
+            Mood::Waiting => [3, 8, 8, 8, 4, 8, 8, 3, 3, 3, 2, 2, 2, 3, 3, 3, 3, 3, 6, 2, 8],
+            Mood::Timers => [1, 12, 40, 8, 1, 1, 1, 1, 1, 1, 1, 1, 1, 1, 1, 1, 1, 1, 6, 1, 1],
+            Mood::Filling => [1, 2, 2, 1, 1, 1, 1, 1, 16, 1, 1, 1, 1, 1, 16, 1, 16, 1, 1, 1, 1],
+            Mood::Draining => [1, 2, 1, 1, 1, 1, 1, 1, 5, 12, 1, 1, 1, 6, 5, 12, 5, 12, 1, 1, 1],
+            Mood::Keys => [1, 6, 1, 1, 1, 1, 1, 1, 1, 1, 8, 8, 8, 16, 1, 1, 1, 1, 1, 1, 1],
+            Mood::Advertising => [1, 6, 2, 2, 1, 3, 1, 1, 1, 1, 1, 1, 1, 1, 1, 1, 1, 1, 50, 18, 2],
+            Mood::BrEdr => [4, 12, 14, 6, 2, 10, 10, 1, 1, 1, 3, 1, 1, 1, 1, 1, 1, 1, 6, 1, 24],
+            Mood::Mixed => [1; 21],
         }
     }
 }
@@ -97,7 +104,7 @@ enum Next {
     Save,
     /// A packet that is none.
     Broken,
-    /// A command that is none of the 23.
+    /// A command that is none of the 24.
     Unknown,
     /// A command about no controller.
     Global,
@@ -154,13 +161,13 @@ impl Generator {
     fn kind(&mut self, hub: &Hub) -> Next {
         let present = hub.state().present().count();
         let open = (0..CONTROLLERS as u64).filter(|index| hub.open(*index).is_some()).count();
-        let waiting = self.mood == Mood::Waiting;
+        let (waiting, br_edr) = (self.mood == Mood::Waiting, self.mood == Mood::BrEdr);
         let weights = [
-            (Next::Report, 12 + open * if waiting { 15 } else { 150 }),
+            (Next::Report, 12 + open * if waiting { 15 } else { 150 - 90 * usize::from(br_edr) }),
             (Next::Clock, if matches!(self.mood, Mood::Timers | Mood::Advertising) { 160 } else { 40 }),
             (Next::Plug, 10 + 400 / (1 + 10 * present * present)),
-            (Next::Unplug, 5 + open),
-            (Next::Save, 8),
+            (Next::Unplug, 5 + open * if br_edr { 3 } else { 1 }),
+            (Next::Save, if br_edr { 40 } else { 8 }),
             (Next::Broken, 12),
             (Next::Unknown, 8),
             (Next::Global, 15),
@@ -196,9 +203,14 @@ impl Generator {
         if self.mood == Mood::Advertising && self.random.percent(90) {
             present.retain(|index| hub.state().controller(*index as u64).is_some_and(instances::can_have));
         }
+        let dual = |index: &usize| hub.state().controller(*index as u64).is_some_and(br_edr::can_be_off);
+        if self.mood == Mood::BrEdr && present.iter().any(dual) && self.random.percent(85) {
+            present.retain(dual);
+        }
+        let spread = matches!(self.mood, Mood::Timers | Mood::BrEdr);
         if present.is_empty() {
             None
-        } else if present.contains(&self.focus) && self.mood != Mood::Timers && self.random.percent(70) {
+        } else if present.contains(&self.focus) && !spread && self.random.percent(70) {
             Some(self.focus)
         } else {
             Some(self.random.pick(&present))
@@ -303,10 +315,12 @@ impl Generator {
         Call::Command { packet, room: self.room() }
     }
 
-    /// A code that is none of the 23.
+    /// A code that is none of the 24.
     fn unknown(&mut self, hub: &Hub) -> Call {
         let code = match self.random.below(3) {
-            0 => self.random.pick(&[0, 8, 0x0E, 0x28, 0x35, 0x3D, 0x40, 0x100, 0x101, 0x105, 0xFFFF]),
+            0 => self
+                .random
+                .pick(&[0, 8, 0x0E, 0x28, 0x29, 0x2C, 0x35, 0x3D, 0x40, 0x100, 0x101, 0x105, 0xFFFF]),
             1 => self.random.below(0x60) as u16,
             _ => self.random.bits() as u16,
         };
@@ -335,13 +349,25 @@ impl Generator {
             return self.command_to(code, hub, 0, self.focus as u16);
         };
         let field = if self.random.percent(3) { self.stray_index() as u16 } else { index as u16 };
-        let readied = hub.state().controller(index as u64).and_then(instances::ready);
-        match readied {
-            Some((code, value)) if self.mood == Mood::Advertising && self.random.percent(60) => {
-                Call::Command { packet: frame(code, field, &[value]), room: self.room() }
+        match hub.state().controller(index as u64).and_then(|controller| self.lead(controller)) {
+            Some((code, parameters)) => {
+                Call::Command { packet: frame(code, field, &parameters), room: self.room() }
             }
-            _ => self.command_to(code, hub, index, field),
+            None => self.command_to(code, hub, index, field),
         }
+    }
+
+    /// Now and then a command that leads somewhere: back to BR/EDR on, or, where that is the mood, to BR/EDR off or to an
+    /// instance on air.
+    fn lead(&mut self, controller: &Controller) -> Option<(u16, Vec<u8>)> {
+        let (leads, percent) = match self.mood {
+            Mood::BrEdr if controller.br_edr => (br_edr::away(controller), 12),
+            Mood::BrEdr => (br_edr::back(controller), 2),
+            _ if controller.is_beyond_images() => (br_edr::back(controller), 12),
+            Mood::Advertising => (instances::ready(controller), 60),
+            _ => (None, 0),
+        };
+        leads.filter(|_| self.random.percent(percent))
     }
 
     /// A command with parameters for one controller and any index field.

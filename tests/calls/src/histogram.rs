@@ -2,6 +2,7 @@
 //! and events, and how often.
 
 use crate::addresses;
+use crate::br_edr;
 use crate::lists::{Lists, IMAGES};
 use crate::look_ups::{LookUps, LOOK_UPS};
 use crate::packets::{Packets, PACKETS};
@@ -78,11 +79,14 @@ pub fn what(call: &Call) -> String {
 /// Why a call will be refused, the reason that answers first.
 fn reasons(hub: &Hub, call: &Call) -> Vec<String> {
     let least = if matches!(call, Call::Save { .. }) { IMAGE_ROOM } else { REPLY_ROOM };
-    if call.room() < least {
-        return vec![NO_ROOM.into()];
-    }
     let state = hub.state();
+    let room = (call.room() < least).then_some(NO_ROOM);
     match call {
+        Call::Save { .. } => {
+            let beyond = state.is_beyond_images().then_some("NotInImage");
+            room.into_iter().chain(beyond).map(String::from).collect()
+        }
+        _ if room.is_some() => room.into_iter().map(String::from).collect(),
         Call::Command { packet, .. } if Packet::read(packet).is_none() => {
             vec![if packet.len() < HEADER { "Short" } else { "LengthField" }.into()]
         }
@@ -171,6 +175,7 @@ impl Histogram {
             }
         };
         addresses::at_image(image, &mut see);
+        br_edr::at_image(image, &mut see);
     }
 
     /// Counts a call with its reply.

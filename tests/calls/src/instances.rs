@@ -37,13 +37,13 @@ pub fn can_have(controller: &Controller) -> bool {
 }
 
 /// The switch that a controller lacks before one of its instances can be on air, turned on: LE, then power.
-pub fn ready(controller: &Controller) -> Option<(u16, u8)> {
+pub fn ready(controller: &Controller) -> Option<(u16, Vec<u8>)> {
     if !can_have(controller) {
         None
     } else if !controller.low_energy {
-        Some((code::SET_LOW_ENERGY, 1))
+        Some((code::SET_LOW_ENERGY, vec![1]))
     } else {
-        (!controller.powered && controller.has_address()).then_some((code::SET_POWERED, 1))
+        (!controller.powered && controller.has_address()).then_some((code::SET_POWERED, vec![1]))
     }
 }
 

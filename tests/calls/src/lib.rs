@@ -4,6 +4,7 @@
 #![warn(missing_docs)]
 
 pub mod addresses;
+pub mod br_edr;
 pub mod coverage;
 pub mod damage;
 pub mod draft;

@@ -1,12 +1,13 @@
 //! Whole lists of calls: where they start, how long they are, and calls at the
 //! end that show what is left in the hub.
 
+use crate::br_edr;
 use crate::damage::{all, damage};
 use crate::draft::Draft;
 use crate::generator::Generator;
 use crate::pools;
 use crate::random::Random;
-use reference::codes::{command as code, CONTROLLERS, IMAGE_ROOM, REPLY_ROOM};
+use reference::codes::{answer, command as code, status, CONTROLLERS, IMAGE_ROOM, REPLY_ROOM};
 use reference::packet::frame;
 use reference::{Call, Hub};
 
@@ -66,11 +67,12 @@ fn one_octet(random: &mut Random, mut image: Vec<u8>) -> Vec<u8> {
     image
 }
 
-/// Calls that end a list: what is under way fails, the settings are shown, the
-/// timers are run to their ends, free slots are used in each table that can be
-/// filled one by one, and an advertising instance comes and all go.
+/// Calls that end a list: what is under way fails, the timers are run to their
+/// ends, BR/EDR is turned on again so that images can tell everything, the
+/// settings are shown, free slots are used in each table that can be filled one
+/// by one, and an advertising instance comes and all go.
 pub struct Closing {
-    /// How many calls there were, failed reports aside.
+    /// How many calls there were, reports and what turns BR/EDR on aside.
     step: usize,
 }
 
@@ -85,7 +87,11 @@ impl Closing {
         const CLOCKS: usize = 2 * CONTROLLERS;
         const SHOWN: usize = 10;
         if let Some(index) = (0..CONTROLLERS as u64).find(|index| hub.open(*index).is_some()) {
-            return Some(Call::Report { index, status: 3, room: REPLY_ROOM });
+            let status = if self.step == 0 { status::FAILED.into() } else { 0 };
+            return Some(Call::Report { index, status, room: REPLY_ROOM });
+        }
+        if let Some(call) = turned_on(hub).filter(|_| self.step > CLOCKS) {
+            return Some(call);
         }
         let step = self.step;
         self.step += 1;
@@ -104,6 +110,13 @@ impl Default for Closing {
     fn default() -> Self {
         Closing::new()
     }
+}
+
+/// A call that leads back to BR/EDR on where it is off, if it is off anywhere.
+fn turned_on(hub: &Hub) -> Option<Call> {
+    let lacks = |index: usize| Some((index, br_edr::back(hub.state().controllers[index].as_ref()?)?));
+    let (index, (code, parameters)) = (0..CONTROLLERS).find_map(lacks)?;
+    Some(Call::Command { packet: frame(code, index as u16, &parameters), room: REPLY_ROOM })
 }
 
 /// The reading one second before the first timer ends, then the one at its end.
@@ -137,16 +150,18 @@ fn starts(random: &mut Random, hub: &Hub, index: usize) -> Option<Call> {
     if hub.open(index as u64).is_some() || !(controller.powered || controller.has_address()) {
         return None;
     }
-    let (code, parameters) = match random.below(4) {
+    let br_edr_on = frame(code::SET_BR_EDR, index as u16, &[1]);
+    let (code, parameters) = match random.below(5) {
         _ if !controller.powered => (code::SET_POWERED, vec![1]),
-        0 if hardware.supports_br_edr() && controller.connectable => {
+        0 if controller.br_edr && controller.connectable => {
             (code::SET_DISCOVERABLE, vec![random.between(1, 2) as u8, 1 + random.octet() / 2, random.octet()])
         }
         1 if hardware.supports_low_energy() => {
-            let off = hardware.supports_br_edr() && random.percent(50);
+            let off = controller.br_edr && random.percent(50);
             (code::SET_LOW_ENERGY, vec![u8::from(!off)])
         }
         2 => (code::SET_CONNECTABLE, vec![random.below(2) as u8]),
+        3 if hub.reasons(&br_edr_on).is_empty() => (code::SET_BR_EDR, vec![1]),
         _ => (code::SET_POWERED, vec![0]),
     };
     Some(Call::Command { packet: frame(code, index as u16, &parameters), room: REPLY_ROOM })
@@ -220,7 +235,10 @@ impl Lists {
         self.left -= 1;
         let call = self.generator.next(hub);
         if self.left == 0 {
-            self.last = hub.save(IMAGE_ROOM).octets;
+            let saved = hub.save(IMAGE_ROOM);
+            if saved.answer == answer::DONE {
+                self.last = saved.octets;
+            }
         }
         Some(call)
     }

@@ -16,6 +16,7 @@ pub fn valid(random: &mut Random, code: u16, controller: &Controller) -> Vec<u8>
         code::SET_CONNECTABLE => vec![switch(random, controller.connectable, 85, 15)],
         code::SET_BONDABLE => vec![switch(random, controller.bondable, 50, 50)],
         code::SET_LOW_ENERGY => vec![switch(random, controller.low_energy, 60, 50)],
+        code::SET_BR_EDR => vec![switch(random, controller.br_edr, 75, 30)],
         code::SET_STATIC_ADDRESS => static_address(random, controller),
         code::SET_LOCAL_NAME => names(random, controller),
         code::ADD_UUID => {

@@ -1,6 +1,7 @@
 //! Situations that a run should reach although no refusal by itself shows them.
 
 use crate::addresses;
+use crate::br_edr;
 use crate::on_air;
 use reference::codes::{command as code, status, CONTROLLERS, SLOTS};
 use reference::command::Command;
@@ -21,30 +22,36 @@ pub fn situations(hub: &Hub, call: &Call) -> Vec<&'static str> {
     match call {
         Call::Command { packet, .. } => match hub.reasons(packet).first() {
             None => at_command(hub, packet, &mut see),
-            Some(reason) => addresses::at_refusal(packet, *reason, &mut see),
+            Some(reason) => {
+                addresses::at_refusal(packet, *reason, &mut see);
+                br_edr::at_refusal(hub, packet, *reason, &mut see);
+            }
         },
         Call::Report { index, status: 0, .. } => at_report(hub, *index, &mut see),
         Call::Report { index, status, .. } if *status <= status::LAST.into() => {
+            br_edr::at_end(hub, *index, "Set BR/EDR fails", &mut see);
             see("failed report beside another open command", hub.open(*index).is_some() && open(hub) > 1)
         }
         Call::Clock { reading, .. } if hub.state().clock_fault(*reading).is_none() => {
             at_clock(hub, *reading, &mut see)
         }
         Call::Unplug { index, .. } => {
+            br_edr::at_end(hub, *index, "Set BR/EDR cut off by an unplug", &mut see);
             see("unplug during a command", hub.open(*index).is_some());
             see("unplug beside another open command", hub.open(*index).is_some() && open(hub) > 1);
             see("unplug with instances", advertises(hub.state().controller(*index)));
         }
-        Call::Save { .. } => {
-            see("save during a command", open(hub) > 0);
-            see(
-                "save with instances",
-                (0..CONTROLLERS as u64).any(|k| advertises(hub.state().controller(k))),
-            );
-        }
+        Call::Save { .. } => at_save(hub, &mut see),
         _ => {}
     }
     found
+}
+
+/// A save.
+fn at_save(hub: &Hub, see: &mut See) {
+    see("save during a command", open(hub) > 0);
+    br_edr::at_save(hub, open(hub) > 0, see);
+    see("save with instances", (0..CONTROLLERS as u64).any(|k| advertises(hub.state().controller(k))));
 }
 
 /// Whether a controller is there and has an advertising instance.
@@ -94,6 +101,7 @@ fn at_report(hub: &Hub, index: u64, see: &mut See) {
     see("report beside another open command", open(hub) > 1);
     let timed = controller.timer.is_some();
     let shown = controller.discoverable;
+    br_edr::at_report(controller, command, see);
     match command {
         Command::SetPowered(0) => {
             see("power off ends a timer", timed);
@@ -122,6 +130,7 @@ fn at_command(hub: &Hub, packet: &[u8], see: &mut See) {
     see("started beside another open command", packet.code == code::SET_POWERED && open(hub) > 0);
     let command = Command::read(&packet);
     addresses::at_command(&command, see);
+    br_edr::at_command(controller, &command, see);
     match command {
         Command::AddUuid(service) => {
             added(&controller.services, &service, see);
@@ -205,7 +214,7 @@ fn unpaired(controller: &Controller, peer: &Peer, see: &mut See) {
     see("zero address unpaired", peer.is_zero());
 }
 
-/// All names that a run should come to, those of advertising and of addresses aside.
+/// All names that a run should come to, those of advertising, of addresses and of BR/EDR aside.
 pub const EXPECTED: [&str; 41] = [
     "failed report beside another open command",
     "unplug during a command",

@@ -69,7 +69,7 @@ fn lists_that_end_with_commands_under_way_agree() {
         }
         compare(&image, &hub, &list);
     }
-    assert_eq!(codes.keys().copied().collect::<Vec<u16>>(), [0x0005, 0x0006, 0x0007, 0x000D]);
+    assert_eq!(codes.keys().copied().collect::<Vec<u16>>(), [0x0005, 0x0006, 0x0007, 0x000D, 0x002A]);
     assert!(codes.values().all(|count| *count > 5), "{codes:?}");
 }
 

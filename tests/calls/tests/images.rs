@@ -4,9 +4,10 @@ use calls::damage::{all, damage, Damage};
 use calls::draft::Draft;
 use calls::lists::{image, Lists, EMPTY};
 use calls::Random;
+use reference::codes::answer::NOT_IN_IMAGE;
 use reference::codes::IMAGE_ROOM;
 use reference::image::{load, save};
-use reference::Hub;
+use reference::{Hub, Reply};
 use std::collections::BTreeMap;
 
 #[test]
@@ -28,6 +29,7 @@ fn images_from_scratch_come_back() {
 #[test]
 fn saved_images_come_back_closed_up() {
     let mut lists = Lists::new(22);
+    let mut beyond = 0;
     for _ in 0..200 {
         let (_, mut hub) = lists.start();
         while let Some(call) = lists.next(&hub) {
@@ -36,12 +38,19 @@ fn saved_images_come_back_closed_up() {
                 break;
             }
         }
-        let saved = hub.save(IMAGE_ROOM).octets;
+        let Reply { answer, octets: saved } = hub.save(IMAGE_ROOM);
+        assert_eq!(answer, if hub.state().is_beyond_images() { NOT_IN_IMAGE } else { 0 });
+        if answer == NOT_IN_IMAGE {
+            assert!(saved.is_empty());
+            beyond += 1;
+            continue;
+        }
         let mut again = Hub::new();
         assert_eq!(again.load(&saved).answer, 0);
         assert_eq!(again.save(IMAGE_ROOM).octets, saved);
         assert_eq!(again.state().clock, 0);
     }
+    assert!((5..100).contains(&beyond), "{beyond} of 200 are not saved");
 }
 
 #[test]

@@ -10,8 +10,8 @@ use std::collections::BTreeSet;
 
 /// The page.
 const PAGE: &str = include_str!("../../../docs/WHY.md");
-/// The names of the three states of the examples.
-const STATES: [&str; 3] = ["at rest", "powered", "waiting"];
+/// The names of the four states of the examples.
+const STATES: [&str; 4] = ["at rest", "powered", "waiting", "LE alone"];
 
 /// A row of a table of wordings, with the heading that it stands under.
 struct Row {
@@ -80,7 +80,7 @@ fn must(hub: &mut Hub, code: u16, parameters: &[u8], answer: u8) {
     assert_eq!(hub.command(&frame(code, 0, parameters), 1024).answer, answer, "{code:#06x}");
 }
 
-/// One of the three states.
+/// One of the four states.
 fn state(name: &str) -> Hub {
     let mut hub = Hub::new();
     for (index, address, supported) in [(0, [0x11; 6], 0x0280), (1, [0; 6], 0x0200), (2, [0x22; 6], 0x0080)] {
@@ -89,6 +89,10 @@ fn state(name: &str) -> Hub {
     match name {
         "at rest" => {}
         "waiting" => must(&mut hub, 0x0005, &[1], 1),
+        "LE alone" => {
+            must(&mut hub, 0x002A, &[0], 0);
+            must(&mut hub, 0x002B, &[0x0A, 0x22, 0x33, 0x44, 0x55, 0xC6], 0);
+        }
         _ => {
             must(&mut hub, 0x0005, &[1], 1);
             assert_eq!(hub.report(0, 0, 1024).answer, 0);

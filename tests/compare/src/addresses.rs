@@ -242,7 +242,7 @@ fn in_state<T: Target>(
     let block = &mut octets[block(place.index)];
     put_in_block(block, place, address);
     let controller = hub.state().controllers[place.index].as_ref().expect("it is loaded");
-    let meant = read(block, controller, false);
+    let meant = read(block, controller);
     lent.put_state(&octets);
     let clock = Call::Clock { reading: 5, room: REPLY_ROOM };
     match meant {

@@ -1,11 +1,11 @@
-//! States with other octets in their advertising part, or for power and LE above it: answered 5 exactly where they are not well formed, and else a hub like any.
+//! States with other octets in their advertising part, or for the switches above it: answered 5 exactly where they are not well formed, and else a hub like any.
 
-use crate::layout::{block, ADVERTISING};
+use crate::layout::{block, ADVERTISING, SETTINGS, STATIC_ADDRESS};
 use crate::lent::{Difference, Lent};
 use crate::look_up::{edge_keys, look_up_agrees, look_up_refused};
 use crate::run::{same, step};
 use crate::schedule::{write, ADV_DATA, DURATIONS, EACH, OCTETS, SCAN_RSP, TIMEOUTS, TURN};
-use crate::switches::{read, LOW_ENERGY, POWERED};
+use crate::switches::{read, BR_EDR, CONNECTABLE, DISCOVERABLE, LOW_ENERGY, POWERED};
 use crate::target::Target;
 use crate::why::why_agrees;
 use calls::instances::steps;
@@ -95,10 +95,12 @@ fn alter(random: &mut Random, controller: &Controller, part: &mut [u8]) {
     }
 }
 
-/// Another octet for power or for LE, mostly the other value; the advertising part is kept.
+/// Another octet for one or two switches, mostly the other value; the advertising part is kept.
 fn switch(random: &mut Random, block: &mut [u8]) {
-    let at = random.pick(&[POWERED, LOW_ENERGY]);
-    block[at] = random.pick(&[block[at] ^ 1, block[at] ^ 1, block[at] ^ 1, 2, 0x80, 0xFF]);
+    for _ in 0..random.between(1, 2) {
+        let at = random.pick(&[POWERED, POWERED, CONNECTABLE, DISCOVERABLE, BR_EDR, BR_EDR, LOW_ENERGY]);
+        block[at] = random.pick(&[block[at] ^ 1, block[at] ^ 1, block[at] ^ 1, block[at] ^ 1, 2, 0x80, 0xFF]);
+    }
 }
 
 /// A clock call on a hub: to the end of a turn, a timeout or a round, or as far as a step goes.
@@ -125,16 +127,16 @@ pub fn altered_states_agree<T: Target>(
             0 => switch(random, block),
             _ => alter(random, controller, &mut block[ADVERTISING..]),
         }
-        let meant = read(block, controller, hub.open(index as u64).is_some());
-        let (power, low_energy, part) = (block[POWERED], block[LOW_ENERGY], &block[ADVERTISING..]);
+        let meant = read(block, controller);
+        let (settings, part) = (&block[SETTINGS..STATIC_ADDRESS.start], &block[ADVERTISING..]);
         let what = format!(
-            "an altered state at index {index}: power {power}, LE {low_energy}, advertising part {part:02X?}"
+            "an altered state at index {index}: settings {settings:02X?}, advertising part {part:02X?}"
         );
         lent.put_state(&octets);
         counts.lent += 1;
         counts.well_formed += usize::from(meant.is_some());
         let result = match meant {
-            Some(controller) => {
+            Some((controller, _)) => {
                 let mut meant = hub.with_controller(index, controller);
                 let call = clock(random, &meant);
                 taken(lent, &mut meant, index, &call)

@@ -11,7 +11,7 @@ use reference::look_up::{slot_keys, TABLES};
 use reference::Hub;
 
 /// Where the word of each table stands in a block; the slots stand behind it.
-pub const WORDS: [usize; 6] = [292, 840, 1_644, 2_800, 3_540, 3_768];
+pub const WORDS: [usize; 6] = [293, 841, 1_645, 2_801, 3_541, 3_769];
 /// The octets of a record in each table.
 pub const RECORDS: [usize; 6] = [17, 25, 36, 23, 7, 8];
 

@@ -7,24 +7,21 @@ use reference::records::{is_static_random, list_fault, Record};
 use reference::table::Table;
 
 /// A controller with the static address and the LE keys of a block's octets, the rest as it is; none if that is not well
-/// formed. The caller tells whether a command is under way there, and looks at power itself.
-pub fn read(block: &[u8], controller: &Controller, open: bool) -> Option<Controller> {
+/// formed. The caller looks at power and at a command under way itself.
+pub fn read(block: &[u8], controller: &Controller) -> Option<Controller> {
     let mut read = controller.clone();
     read.static_address.copy_from_slice(&block[STATIC_ADDRESS]);
     read.long_term_keys = keys(&block[LONG_TERM_KEYS])?;
     read.identity_keys = keys(&block[IDENTITY_KEYS])?;
-    keeps_rules(&read, open).then_some(read)
+    keeps_rules(&read).then_some(read)
 }
 
-/// A static address is zero or a static random one; it and keys need LE support. (A command under way needs an address:
-/// it has power, or asks for it.)
-fn keeps_rules(controller: &Controller, open: bool) -> bool {
+/// A static address is zero or a static random one; it and keys need LE support.
+fn keeps_rules(controller: &Controller) -> bool {
     let has_static = controller.static_address != [0; 6];
     let keyed = !controller.long_term_keys.is_empty() || !controller.identity_keys.is_empty();
     let supported = controller.hardware.supports_low_energy() || !(has_static || keyed);
-    supported
-        && (!has_static || is_static_random(&controller.static_address))
-        && (!open || controller.has_address())
+    supported && (!has_static || is_static_random(&controller.static_address))
 }
 
 /// The table that octets stand for; none if a record breaks a rule, two name one thing, or a free slot is not zero.

@@ -12,23 +12,27 @@ use reference::Hub;
 use std::ops::Range;
 
 /// The octets of a state.
-pub const STATE: usize = 17_488;
+pub const STATE: usize = 17_492;
 /// Where the first controller's block begins, behind the clock.
 const BLOCKS: usize = 4;
 /// The octets of a block.
-const BLOCK: usize = 4_371;
+const BLOCK: usize = 4_372;
 /// Where the open command stands in a block, and how many octets it has: its code and up to three parameters.
-const OPEN: usize = 1;
+pub const OPEN: usize = 1;
 /// The octets of an open command.
-const OPEN_OCTETS: usize = 5;
+pub const OPEN_OCTETS: usize = 5;
+/// Where stands what plug told, and behind it the settings, with which the static address ends.
+pub const HARDWARE: usize = 6;
+/// Where the settings stand: six flags, the timer, the static address.
+pub const SETTINGS: usize = 19;
 /// Where the static address stands in a block.
-pub const STATIC_ADDRESS: Range<usize> = 26..32;
+pub const STATIC_ADDRESS: Range<usize> = 27..33;
 /// Where the table of long term keys stands in a block.
-pub const LONG_TERM_KEYS: Range<usize> = 1_644..2_800;
+pub const LONG_TERM_KEYS: Range<usize> = 1_645..2_801;
 /// Where the table of identity resolving keys stands in a block.
-pub const IDENTITY_KEYS: Range<usize> = 2_800..3_540;
+pub const IDENTITY_KEYS: Range<usize> = 2_801..3_541;
 /// Where the advertising instances stand in a block, which they end.
-pub const ADVERTISING: usize = 4_028;
+pub const ADVERTISING: usize = 4_029;
 
 /// The state of a hub, its open commands included.
 pub fn encode(hub: &Hub) -> Vec<u8> {
@@ -96,9 +100,10 @@ fn put(out: &mut [u8], at: usize, octets: &[u8]) {
 fn open(command: &Command) -> [u8; OPEN_OCTETS] {
     let [low, high] = command.code().to_le_bytes();
     let [first, second, third] = match command {
-        Command::SetPowered(value) | Command::SetConnectable(value) | Command::SetLowEnergy(value) => {
-            [*value, 0, 0]
-        }
+        Command::SetPowered(value)
+        | Command::SetConnectable(value)
+        | Command::SetLowEnergy(value)
+        | Command::SetBrEdr(value) => [*value, 0, 0],
         Command::SetDiscoverable { mode, timeout } => {
             let [seconds, more] = timeout.to_le_bytes();
             [*mode, seconds, more]
@@ -112,25 +117,26 @@ fn open(command: &Command) -> [u8; OPEN_OCTETS] {
 fn fill(block: &mut [u8], controller: &Controller) {
     let hardware = &controller.hardware;
     block[0] = 1;
-    block[6] = hardware.version;
+    block[HARDWARE] = hardware.version;
     put(block, 7, &hardware.manufacturer.to_le_bytes());
     put(block, 9, &hardware.supported.to_le_bytes());
     put(block, 13, &hardware.public_address);
-    block[19] = controller.powered.into();
+    block[SETTINGS] = controller.powered.into();
     block[20] = controller.connectable.into();
     block[21] = controller.discoverable.into();
     block[22] = controller.bondable.into();
-    block[23] = controller.low_energy.into();
-    put(block, 24, &controller.timer.unwrap_or(0).to_le_bytes());
+    block[23] = controller.br_edr.into();
+    block[24] = controller.low_energy.into();
+    put(block, 25, &controller.timer.unwrap_or(0).to_le_bytes());
     put(block, STATIC_ADDRESS.start, &controller.static_address);
-    put(block, 32, &controller.local_name.name);
-    put(block, 281, &controller.local_name.short_name);
-    table(&mut block[292..840], &controller.services);
-    table(&mut block[840..1644], &controller.link_keys);
+    put(block, 33, &controller.local_name.name);
+    put(block, 282, &controller.local_name.short_name);
+    table(&mut block[293..841], &controller.services);
+    table(&mut block[841..1645], &controller.link_keys);
     table(&mut block[LONG_TERM_KEYS], &controller.long_term_keys);
     table(&mut block[IDENTITY_KEYS], &controller.identity_keys);
-    table(&mut block[3540..3768], &controller.blocked);
-    table(&mut block[3768..4028], &controller.devices);
+    table(&mut block[3541..3769], &controller.blocked);
+    table(&mut block[3769..4029], &controller.devices);
     schedule::write(&mut block[ADVERTISING..], &controller.advertising);
 }
 

@@ -6,6 +6,9 @@
 
 pub mod addresses;
 pub mod altered;
+pub mod br_edr;
+#[cfg(test)]
+mod br_edr_tests;
 pub mod broken;
 #[cfg(test)]
 mod example_tests;
@@ -29,6 +32,8 @@ mod tests;
 pub mod why;
 #[cfg(test)]
 mod why_tests;
+#[cfg(test)]
+mod wrong_br_edr;
 #[cfg(test)]
 mod wrong_look_up;
 #[cfg(test)]

@@ -78,7 +78,7 @@ extern "C" {
 pub struct Library;
 
 impl Target for Library {
-    const STATE_LEN: usize = 17_488;
+    const STATE_LEN: usize = 17_492;
 
     fn call(&mut self, state: &mut [u8], call: &Call, reply: &mut [u8]) -> u64 {
         let (state, state_len) = (state.as_mut_ptr(), state.len());

@@ -3,6 +3,7 @@
 mod library;
 
 use compare::addresses::addresses_agree;
+use compare::br_edr::br_edr_agrees;
 use compare::run::{Comparison, Failure};
 use compare::shrink::shrink;
 use library::Library;
@@ -58,10 +59,12 @@ fn main() -> ExitCode {
     println!("seed {seed}");
     let start = Instant::now();
     let mut comparison = Comparison::new(seed, Library, Library);
-    match addresses_agree(comparison.lent()) {
-        Ok(sweep) => println!("{sweep}"),
+    let sweeps = addresses_agree(comparison.lent()).map(|sweep| sweep.to_string());
+    let sweeps = sweeps.and_then(|first| Ok(format!("{first}\n{}", br_edr_agrees(comparison.lent())?)));
+    match sweeps {
+        Ok(sweeps) => println!("{sweeps}"),
         Err(difference) => {
-            println!("the hubs differ on an address: {difference}");
+            println!("the hubs differ in a sweep: {difference}");
             return ExitCode::FAILURE;
         }
     }

@@ -1,12 +1,11 @@
 //! The reference hub behind a state buffer, to try the comparison itself.
 //!
 //! The buffer holds the octets of the state; they are not read back, but looked
-//! for among those of the last states, which are kept aside. The static addresses,
-//! the LE keys, power, LE and the advertising parts alone may be others, and are read.
+//! for among those of the last states, which are kept aside. Open commands, what plug told, the
+//! settings, the LE keys and the advertising parts alone may be others, and are read.
 
-use crate::identities;
-use crate::layout::{block, encode, ADVERTISING, IDENTITY_KEYS, LONG_TERM_KEYS, STATE, STATIC_ADDRESS};
-use crate::switches::{self, LOW_ENERGY, POWERED};
+use crate::layout::{block, encode, ADVERTISING, IDENTITY_KEYS, LONG_TERM_KEYS, OPEN, STATE, STATIC_ADDRESS};
+use crate::switches;
 use crate::target::Target;
 use reference::codes::answer;
 use reference::reason::ArgumentFault;
@@ -50,9 +49,8 @@ impl Mirror {
             let mut octets = octets.to_vec();
             for index in hub.state().present() {
                 let (kept, found) = (&mut octets[block(index)], state.get(block(index))?);
-                let flags = [POWERED, LOW_ENERGY].map(|at| at..at + 1);
-                let parts = [STATIC_ADDRESS, LONG_TERM_KEYS, IDENTITY_KEYS, ADVERTISING..found.len()];
-                for part in flags.into_iter().chain(parts) {
+                let settings = OPEN..STATIC_ADDRESS.end;
+                for part in [settings, LONG_TERM_KEYS, IDENTITY_KEYS, ADVERTISING..found.len()] {
                     kept[part.clone()].copy_from_slice(&found[part]);
                 }
             }
@@ -62,10 +60,8 @@ impl Mirror {
         let mut hub = kept.clone();
         for index in kept.state().present() {
             let (controller, open) =
-                (kept.state().controller(index as u64)?, kept.open(index as u64).is_some());
-            let octets = &state[block(index)];
-            let with_keys = identities::read(octets, controller, open)?;
-            hub = hub.with_controller(index, switches::read(octets, &with_keys, open)?);
+                switches::read(&state[block(index)], kept.state().controller(index as u64)?)?;
+            hub = hub.with_controller(index, controller).with_open(index, open);
         }
         Some(hub)
     }

@@ -19,7 +19,7 @@ use reference::records::is_static_random;
 use reference::{Call, Hub};
 
 /// The octets of a block.
-const BLOCK: usize = 4_371;
+const BLOCK: usize = 4_372;
 
 /// What a faulty hub does wrong.
 #[derive(Clone, Copy, Debug)]
@@ -82,7 +82,7 @@ fn open_index(before: &[u8], after: &[u8]) -> u8 {
 
 /// Leaves a second more of the first turn that there is.
 fn longer_turn(state: &mut [u8]) {
-    let turns = (0..4).map(|index| 4 + BLOCK * index + 4048);
+    let turns = (0..4).map(|index| 4 + BLOCK * index + 4049);
     if let Some(at) = turns.into_iter().find(|at| state[*at] != 0) {
         state[at + 1] = state[at + 1].wrapping_add(1);
     }
@@ -179,7 +179,7 @@ fn a_difference_that_no_reply_shows_is_found_by_its_octet() {
     let takes = failure(Fault::Takes).difference;
     assert!(takes.starts_with("an altered state at index "), "{takes}");
     let place = failure(Fault::Place).difference;
-    assert!(place.starts_with("the state differs: octet 4370 of block 3 "), "{place}");
+    assert!(place.starts_with("the state differs: octet 4371 of block 3 "), "{place}");
 }
 
 /// Makes a call that must be answered so.
@@ -213,14 +213,14 @@ fn the_state_is_laid_out_as_the_document_says() {
     let hub = small_hub();
     let mut expected = vec![0; STATE];
     expected[..4].copy_from_slice(&[1, 2, 3, 4]);
-    let block = &mut expected[4375..8746];
+    let block = &mut expected[4376..8748];
     block[..6].copy_from_slice(&[1, 0x06, 0x00, 2, 0x34, 0x12]);
     let given = [9, 0x0B, 0x0A, 0xDB, 0x02, 0, 0, 0x11, 0x22, 0x33, 0x44, 0x55, 0x66];
     block[6..19].copy_from_slice(&given);
-    block[19..24].copy_from_slice(&[1, 1, 0, 0, 1]);
-    block[3768..3780].copy_from_slice(&[1, 0, 0, 0, 1, 2, 3, 4, 5, 6, 1, 2]);
+    block[19..25].copy_from_slice(&[1, 1, 0, 0, 1, 1]);
+    block[3769..3781].copy_from_slice(&[1, 0, 0, 0, 1, 2, 3, 4, 5, 6, 1, 2]);
     assert_eq!(same_state("", &expected, &encode(&hub)), Ok(()));
-    expected[4376..4381].fill(0);
+    expected[4377..4382].fill(0);
     assert_eq!(encode_at_once(hub.state()), expected);
     assert_eq!(cleared(&encode(&hub)), expected);
     assert_eq!(encode(&Hub::new()), vec![0; STATE]);
@@ -235,14 +235,14 @@ fn advertising_ends_the_block_as_the_document_says() {
     must(&mut hub, command(code::ADD_ADVERTISING, &[2, 0, 0, 0, 0, 0, 0, 0, 0, 1, 0, 0xAD]), 0);
     let before = encode(&small_hub());
     let mut expected = before.clone();
-    let block = &mut expected[4375..8746];
-    block[4028..4038].copy_from_slice(&[0, 0, 2, 0, 0, 0, 0, 0, 0x34, 0x12]);
-    block[4038..4048].copy_from_slice(&[0, 0, 0, 0, 0, 0, 0, 0, 0xBC, 0x0A]);
-    block[4048..4051].copy_from_slice(&[5, 0x34, 0x12]);
-    block[4083..4085].copy_from_slice(&[1, 0xAD]);
-    block[4179..4182].copy_from_slice(&[2, 0xA1, 0xA2]);
-    block[4339] = 31;
-    block[4340..4371].fill(0xB0);
+    let block = &mut expected[4376..8748];
+    block[4029..4039].copy_from_slice(&[0, 0, 2, 0, 0, 0, 0, 0, 0x34, 0x12]);
+    block[4039..4049].copy_from_slice(&[0, 0, 0, 0, 0, 0, 0, 0, 0xBC, 0x0A]);
+    block[4049..4052].copy_from_slice(&[5, 0x34, 0x12]);
+    block[4084..4086].copy_from_slice(&[1, 0xAD]);
+    block[4180..4183].copy_from_slice(&[2, 0xA1, 0xA2]);
+    block[4340] = 31;
+    block[4341..4372].fill(0xB0);
     assert_eq!(same_state("", &expected, &encode(&hub)), Ok(()));
     must(&mut hub, command(code::REMOVE_ADVERTISING, &[0]), 0);
     assert_eq!(encode(&hub), before);
@@ -314,8 +314,9 @@ fn power_and_low_energy_have_to_fit_the_other_settings() {
     let well_formed = |index: usize, power: u8, low_energy: u8, open: bool| {
         let mut octets = encode(&hub)[block(index)].to_vec();
         (octets[switches::POWERED], octets[switches::LOW_ENERGY]) = (power, low_energy);
+        octets[1..6].copy_from_slice(&if open { [5, 0, 1, 0, 0] } else { [0; 5] });
         let controller = hub.state().controller(index as u64).expect("it is plugged");
-        switches::read(&octets, controller, open).is_some()
+        switches::read(&octets, controller).is_some()
     };
     let all = |index, open| [(0, 0), (0, 1), (1, 0), (1, 1)].map(|(p, le)| well_formed(index, p, le, open));
     assert_eq!(all(0, false), [true; 4]);
@@ -333,23 +334,23 @@ fn addresses_and_keys_are_read_only_where_they_are_well_formed() {
     must(&mut hub, Call::Command { packet, room: 1024 }, 0);
     let controller = hub.state().controller(1).expect("it is plugged");
     let part = encode(&hub)[block(1)].to_vec();
-    assert_eq!(identities::read(&part, controller, true).as_ref(), Some(controller));
+    assert_eq!(identities::read(&part, controller).as_ref(), Some(controller));
     let well_formed: [Edit; 4] = [
-        |block| block[26..32].copy_from_slice(&[1, 0, 0, 0, 0, 0xC0]),
-        |block| block[2804..2810].copy_from_slice(&[0xFF, 0xFF, 0xFF, 0xFF, 0xFF, 0xFE]),
-        |block| (block[2804..2810].fill(0), block[2810] = 1).1,
-        |block| block[2800..2827].fill(0),
+        |block| block[27..33].copy_from_slice(&[1, 0, 0, 0, 0, 0xC0]),
+        |block| block[2805..2811].copy_from_slice(&[0xFF, 0xFF, 0xFF, 0xFF, 0xFF, 0xFE]),
+        |block| (block[2805..2811].fill(0), block[2811] = 1).1,
+        |block| block[2801..2828].fill(0),
     ];
     let malformed: [Edit; 7] = [
-        |block| block[31] = 0xC0,
-        |block| block[26..32].fill(0xFF),
-        |block| block[26] = 1,
-        |block| block[2804..2809].fill(0),
-        |block| block[2810] = 0,
-        |block| block[2800] = 3,
-        |block| block[2827] = 1,
+        |block| block[32] = 0xC0,
+        |block| block[27..33].fill(0xFF),
+        |block| block[27] = 1,
+        |block| block[2805..2810].fill(0),
+        |block| block[2811] = 0,
+        |block| block[2801] = 3,
+        |block| block[2828] = 1,
     ];
-    tell_apart(&part, &well_formed, &malformed, |part| identities::read(part, controller, true).is_some());
+    tell_apart(&part, &well_formed, &malformed, |part| identities::read(part, controller).is_some());
 }
 
 #[test]
@@ -476,6 +477,7 @@ fn a_wrong_answer_to_a_question_shrinks_too() {
     assert!(found.difference.starts_with("on air at index "), "{}", found.difference);
     let mut comparison = Comparison::new(3, Faulty::new(Fault::OnAir), Faulty::new(Fault::OnAir));
     let small = shrink(comparison.lent(), found);
-    assert!(small.calls.len() <= 4, "{:?}", small.calls);
+    // A plug, a static address where there is no public one, an instance, power and its report.
+    assert!(small.calls.len() <= 5, "{:?}", small.calls);
     assert!(small.calls.iter().any(|call| is_command(call, code::ADD_ADVERTISING)));
 }

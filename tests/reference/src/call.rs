@@ -3,7 +3,7 @@
 /// What a call answers: the number and the octets written.
 #[derive(Clone, PartialEq, Eq, Hash, Debug)]
 pub struct Reply {
-    /// 0 to 7, by the table of answers.
+    /// 0 to 8, by the table of answers.
     pub answer: u8,
     /// The octets at the start of the reply buffer.
     pub octets: Vec<u8>,

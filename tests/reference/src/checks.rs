@@ -40,9 +40,10 @@ pub fn all_faults(case: &Case) -> Vec<Fault> {
 pub fn is_started(controller: &Controller, command: &Command) -> bool {
     match command {
         Command::SetPowered(value) => (*value == 1) != controller.powered,
-        Command::SetDiscoverable { .. } | Command::SetConnectable(_) | Command::SetLowEnergy(_) => {
-            controller.powered
-        }
+        Command::SetDiscoverable { .. }
+        | Command::SetConnectable(_)
+        | Command::SetLowEnergy(_)
+        | Command::SetBrEdr(_) => controller.powered,
         _ => false,
     }
 }
@@ -69,7 +70,8 @@ fn parameter_fault(command: &Command) -> Option<Fault> {
         Command::SetPowered(value)
         | Command::SetConnectable(value)
         | Command::SetBondable(value)
-        | Command::SetLowEnergy(value) => found(*value > 1, Reason::SettingValue, 0),
+        | Command::SetLowEnergy(value)
+        | Command::SetBrEdr(value) => found(*value > 1, Reason::SettingValue, 0),
         Command::SetDiscoverable { mode, timeout } => wrong_discoverable(*mode, *timeout),
         Command::SetStaticAddress(address) => {
             let fits = *address == [0; 6] || is_static_random(address);
@@ -127,6 +129,10 @@ fn wrong_instance(new: &NewInstance) -> Option<Fault> {
 fn unsupported(case: &Case) -> Option<Fault> {
     let hardware = &case.controller.hardware;
     let (supported, reason) = match case.command {
+        Command::SetBrEdr(_) if hardware.supports_br_edr() => {
+            (hardware.supports_low_energy(), Reason::NoLowEnergy)
+        }
+        Command::SetBrEdr(_) => (false, Reason::NoBrEdr),
         Command::SetDiscoverable { .. } | Command::LoadLinkKeys { .. } => {
             (hardware.supports_br_edr(), Reason::NoBrEdr)
         }
@@ -157,6 +163,7 @@ fn busy(case: &Case) -> Option<Fault> {
             | Command::SetDiscoverable { .. }
             | Command::SetConnectable(_)
             | Command::SetLowEnergy(_)
+            | Command::SetBrEdr(_)
             | Command::SetStaticAddress(_)
     );
     (case.busy && waits).then_some(Fault::new(Reason::Busy))
@@ -167,10 +174,14 @@ fn rejected(case: &Case) -> Option<Fault> {
     let controller = case.controller;
     let reason = match case.command {
         Command::SetPowered(1) => (!controller.has_address()).then_some(Reason::NoAddress),
-        Command::SetDiscoverable { mode: 1 | 2, .. } => {
-            (!controller.connectable).then_some(Reason::NotConnectable)
+        Command::SetDiscoverable { mode: 1 | 2, .. } if !controller.connectable => {
+            Some(Reason::NotConnectable)
         }
-        Command::SetLowEnergy(0) => (!controller.hardware.supports_br_edr()).then_some(Reason::OnlyLowEnergy),
+        Command::SetLowEnergy(0) if !controller.hardware.supports_br_edr() => Some(Reason::OnlyLowEnergy),
+        Command::SetDiscoverable { mode: 1 | 2, .. } | Command::SetLowEnergy(0) => {
+            (!controller.br_edr).then_some(Reason::BrEdrOff)
+        }
+        Command::SetBrEdr(value) => rejected_br_edr(controller, *value),
         Command::SetStaticAddress(_) => controller.powered.then_some(Reason::Powered),
         Command::AddAdvertising(_) if !controller.low_energy => Some(Reason::LowEnergyOff),
         Command::AddAdvertising(new) => {
@@ -179,6 +190,17 @@ fn rejected(case: &Case) -> Option<Fault> {
         _ => None,
     };
     reason.map(Fault::new)
+}
+
+/// BR/EDR goes off without power only and comes on without a static address only, and LE has to be on for both.
+fn rejected_br_edr(controller: &Controller, value: u8) -> Option<Reason> {
+    if value == 0 && controller.powered {
+        Some(Reason::BrEdrPowered)
+    } else if value == 1 && controller.static_address != [0; 6] {
+        Some(Reason::StaticAddressSet)
+    } else {
+        (!controller.low_energy).then_some(Reason::LowEnergyOff)
+    }
 }
 
 /// What the tables hold or lack.

@@ -36,6 +36,8 @@ pub mod command {
     pub const BLOCK: u16 = 0x0026;
     /// Unblock Device.
     pub const UNBLOCK: u16 = 0x0027;
+    /// Set BR/EDR.
+    pub const SET_BR_EDR: u16 = 0x002A;
     /// Set Static Address.
     pub const SET_STATIC_ADDRESS: u16 = 0x002B;
     /// Load Identity Resolving Keys.
@@ -49,8 +51,8 @@ pub mod command {
     /// Remove Advertising.
     pub const REMOVE_ADVERTISING: u16 = 0x003F;
 
-    /// The 23 known codes, ascending.
-    pub const KNOWN: [u16; 23] = [
+    /// The 24 known codes, ascending.
+    pub const KNOWN: [u16; 24] = [
         READ_VERSION,
         READ_COMMANDS,
         READ_INDEX_LIST,
@@ -68,6 +70,7 @@ pub mod command {
         UNPAIR,
         BLOCK,
         UNBLOCK,
+        SET_BR_EDR,
         SET_STATIC_ADDRESS,
         LOAD_IDENTITY_KEYS,
         ADD_DEVICE,
@@ -171,6 +174,8 @@ pub mod answer {
     pub const ARGUMENT: u8 = 6;
     /// The image is not acceptable.
     pub const IMAGE: u8 = 7;
+    /// The image has no place for what would be saved.
+    pub const NOT_IN_IMAGE: u8 = 8;
 }
 
 /// Bits of the settings words.

@@ -28,6 +28,8 @@ pub enum Command {
     SetBondable(u8),
     /// Set Low Energy.
     SetLowEnergy(u8),
+    /// Set BR/EDR.
+    SetBrEdr(u8),
     /// Set Static Address.
     SetStaticAddress(Address),
     /// Set Local Name.
@@ -116,7 +118,7 @@ impl NewInstance {
     }
 }
 
-/// Whether a code is one of the 23.
+/// Whether a code is one of the 24.
 pub fn is_known(code: u16) -> bool {
     code::KNOWN.contains(&code)
 }
@@ -141,7 +143,7 @@ fn list_shape(code: u16) -> Option<(usize, usize)> {
 fn fixed_length(code: u16) -> usize {
     match code {
         code::SET_POWERED | code::SET_CONNECTABLE | code::SET_BONDABLE | code::SET_LOW_ENERGY => 1,
-        code::REMOVE_ADVERTISING => 1,
+        code::SET_BR_EDR | code::REMOVE_ADVERTISING => 1,
         code::SET_DISCOVERABLE => 3,
         code::SET_STATIC_ADDRESS => 6,
         code::SET_LOCAL_NAME => 260,
@@ -222,6 +224,7 @@ impl Command {
             code::SET_CONNECTABLE => Command::SetConnectable(octets[0]),
             code::SET_BONDABLE => Command::SetBondable(octets[0]),
             code::SET_LOW_ENERGY => Command::SetLowEnergy(octets[0]),
+            code::SET_BR_EDR => Command::SetBrEdr(octets[0]),
             code::SET_STATIC_ADDRESS => Command::SetStaticAddress(octets.try_into().expect(exact)),
             code::SET_LOCAL_NAME => Command::SetLocalName(Box::new(LocalName::read(octets))),
             code::ADD_UUID => Command::AddUuid(Service::read(octets)),
@@ -239,6 +242,7 @@ impl Command {
             Command::SetConnectable(_) => code::SET_CONNECTABLE,
             Command::SetBondable(_) => code::SET_BONDABLE,
             Command::SetLowEnergy(_) => code::SET_LOW_ENERGY,
+            Command::SetBrEdr(_) => code::SET_BR_EDR,
             Command::SetStaticAddress(_) => code::SET_STATIC_ADDRESS,
             Command::SetLocalName(_) => code::SET_LOCAL_NAME,
             Command::AddUuid(_) => code::ADD_UUID,

@@ -98,6 +98,8 @@ pub struct Controller {
     pub discoverable: bool,
     /// Setting bit 4.
     pub bondable: bool,
+    /// Setting bit 7, on only where it is supported.
+    pub br_edr: bool,
     /// Setting bit 9.
     pub low_energy: bool,
     /// Seconds until discoverable ends, at least 1, where a timer runs.
@@ -126,6 +128,7 @@ impl Controller {
     /// A controller as plug leaves it.
     pub fn plugged(hardware: Hardware) -> Controller {
         Controller {
+            br_edr: hardware.supports_br_edr(),
             low_energy: hardware.supports_low_energy(),
             hardware,
             powered: false,
@@ -145,9 +148,9 @@ impl Controller {
         }
     }
 
-    /// Whether the static address stands in for a missing public one.
+    /// Whether the static address is the one in use: there is no public one, or BR/EDR, which goes by it, is off.
     fn uses_static_address(&self) -> bool {
-        self.static_address != [0; 6] && self.hardware.public_address == [0; 6]
+        self.static_address != [0; 6] && (self.hardware.public_address == [0; 6] || !self.br_edr)
     }
 
     /// Whether the controller has any address of its own.
@@ -162,7 +165,7 @@ impl Controller {
             (self.connectable, setting::CONNECTABLE),
             (self.discoverable, setting::DISCOVERABLE),
             (self.bondable, setting::BONDABLE),
-            (self.hardware.supports_br_edr(), setting::BR_EDR),
+            (self.br_edr, setting::BR_EDR),
             (self.low_energy, setting::LOW_ENERGY),
             (self.uses_static_address(), setting::STATIC_ADDRESS),
         ];
@@ -194,12 +197,22 @@ impl Controller {
             || self.identity_keys.entries().any(|key| key.peer == *peer)
     }
 
+    /// Discoverable goes off, and its timer with it.
+    pub fn end_discoverable(&mut self) {
+        self.discoverable = false;
+        self.timer = None;
+    }
+
+    /// Whether it has something that images cannot tell: BR/EDR turned off, where they take it to be on as supported.
+    pub fn is_beyond_images(&self) -> bool {
+        self.hardware.supports_br_edr() && !self.br_edr
+    }
+
     /// Lets the discoverable timer run; true if it ended, and discoverable with it.
     pub fn count_down(&mut self, step: u32) -> bool {
         match self.timer {
             Some(seconds) if u32::from(seconds) <= step => {
-                self.timer = None;
-                self.discoverable = false;
+                self.end_discoverable();
                 true
             }
             Some(seconds) => {

@@ -18,6 +18,7 @@ pub fn act(controller: &mut Controller, index: u16, command: &Command) -> Vec<u8
         | Command::SetConnectable(_)
         | Command::SetBondable(_)
         | Command::SetLowEnergy(_)
+        | Command::SetBrEdr(_)
         | Command::SetStaticAddress(_) => change_settings(controller, index, command),
         Command::SetLocalName(names) => change_name(controller, index, command.code(), names),
         Command::AddUuid(_) | Command::RemoveUuid(_) => change_services(controller, index, command),
@@ -89,8 +90,7 @@ fn apply_setting(controller: &mut Controller, command: &Command) -> Vec<u8> {
         Command::SetConnectable(value) => {
             controller.connectable = *value == 1;
             if !controller.connectable {
-                controller.discoverable = false;
-                controller.timer = None;
+                controller.end_discoverable();
             }
         }
         Command::SetBondable(value) => controller.bondable = *value == 1,
@@ -98,6 +98,12 @@ fn apply_setting(controller: &mut Controller, command: &Command) -> Vec<u8> {
             controller.low_energy = *value == 1;
             if !controller.low_energy {
                 return controller.advertising.remove(|_, _| true);
+            }
+        }
+        Command::SetBrEdr(value) => {
+            controller.br_edr = *value == 1;
+            if !controller.br_edr {
+                controller.end_discoverable();
             }
         }
         Command::SetStaticAddress(address) => controller.static_address = *address,

@@ -54,6 +54,13 @@ impl Hub {
         hub
     }
 
+    /// The same hub with another command under way at an index, or none.
+    pub fn with_open(&self, index: usize, command: Option<Command>) -> Hub {
+        let mut hub = self.clone();
+        hub.open[index] = command;
+        hub
+    }
+
     /// Where a command is under way.
     fn busy(&self) -> [bool; CONTROLLERS] {
         std::array::from_fn(|index| self.open[index].is_some())
@@ -243,5 +250,11 @@ pub(crate) fn clock(state: &mut State, reading: u32, room: usize) -> Reply {
 
 /// A save call on either hub.
 pub(crate) fn save(state: &State, room: usize) -> Reply {
-    room_fault(room, IMAGE_ROOM).unwrap_or_else(|| done(image::save(state)))
+    if let Some(reply) = room_fault(room, IMAGE_ROOM) {
+        reply
+    } else if state.is_beyond_images() {
+        Reply::bare(answer::NOT_IN_IMAGE)
+    } else {
+        done(image::save(state))
+    }
 }

@@ -13,7 +13,7 @@ const VERSION: u8 = 1;
 /// The settings that an image keeps.
 const FLAGS: u32 = setting::CONNECTABLE | setting::BONDABLE | setting::LOW_ENERGY;
 
-/// The image of a state.
+/// The image of a state, where one can tell it.
 pub fn save(state: &State) -> Vec<u8> {
     let mut out = vec![0; 4];
     out.push(VERSION);
@@ -185,6 +185,7 @@ fn load_controller(rest: &mut Rest) -> Result<Controller, ImageFault> {
         connectable: flags & setting::CONNECTABLE != 0,
         discoverable: false,
         bondable: flags & setting::BONDABLE != 0,
+        br_edr,
         low_energy: flags & setting::LOW_ENERGY != 0,
         timer: None,
         static_address,

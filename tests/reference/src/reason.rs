@@ -5,7 +5,7 @@ use crate::codes::status;
 /// Why a command is refused.
 #[derive(Clone, Copy, PartialEq, Eq, PartialOrd, Ord, Debug, Hash)]
 pub enum Reason {
-    /// The code is none of the 23.
+    /// The code is none of the 24.
     UnknownCommand,
     /// A command about no controller with another index than 0xFFFF.
     HubIndex,
@@ -85,9 +85,15 @@ pub enum Reason {
     NotConnectable,
     /// LE off where there is no BR/EDR.
     OnlyLowEnergy,
+    /// Discoverable on, or LE off, with BR/EDR off.
+    BrEdrOff,
+    /// BR/EDR off while powered.
+    BrEdrPowered,
+    /// BR/EDR on beside a static address.
+    StaticAddressSet,
     /// A static address set while powered.
     Powered,
-    /// An instance is added with LE off.
+    /// An instance is added, or BR/EDR set, with LE off.
     LowEnergyOff,
     /// An instance with a timeout is added without power.
     TimeoutUnpowered,
@@ -109,7 +115,7 @@ pub enum Reason {
 
 impl Reason {
     /// All of them.
-    pub const ALL: [Reason; 50] = [
+    pub const ALL: [Reason; 53] = [
         Reason::UnknownCommand,
         Reason::HubIndex,
         Reason::ControllerIndex,
@@ -150,6 +156,9 @@ impl Reason {
         Reason::NoAddress,
         Reason::NotConnectable,
         Reason::OnlyLowEnergy,
+        Reason::BrEdrOff,
+        Reason::BrEdrPowered,
+        Reason::StaticAddressSet,
         Reason::Powered,
         Reason::LowEnergyOff,
         Reason::TimeoutUnpowered,
@@ -172,9 +181,9 @@ impl Reason {
             NoBrEdr | NoLowEnergy => status::NOT_SUPPORTED,
             DiscoverableUnpowered | NotPowered => status::NOT_POWERED,
             Busy => status::BUSY,
-            NoAddress | NotConnectable | OnlyLowEnergy | Powered | LowEnergyOff | TimeoutUnpowered => {
-                status::REJECTED
-            }
+            NoAddress | NotConnectable | OnlyLowEnergy | BrEdrOff => status::REJECTED,
+            BrEdrPowered | StaticAddressSet => status::REJECTED,
+            Powered | LowEnergyOff | TimeoutUnpowered => status::REJECTED,
             NotPaired => status::NOT_PAIRED,
             AlreadyBlocked => status::FAILED,
             _ => status::INVALID_PARAMETERS,

@@ -121,6 +121,11 @@ impl State {
         }
     }
 
+    /// Whether a controller has something that images cannot tell.
+    pub fn is_beyond_images(&self) -> bool {
+        self.controllers.iter().flatten().any(Controller::is_beyond_images)
+    }
+
     /// Why a clock reading is refused, if it is.
     pub fn clock_fault(&self, reading: u32) -> Option<ArgumentFault> {
         let step = reading.wrapping_sub(self.clock);

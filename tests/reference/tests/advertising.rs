@@ -4,7 +4,7 @@ mod common;
 
 use common::*;
 use reference::reason::Reason;
-use reference::{AtOnceHub, Call, Hub};
+use reference::{Call, Hub};
 
 /// Rejected.
 const REJECTED: u8 = 0x0B;
@@ -413,18 +413,8 @@ fn the_host_is_told_what_is_on_air() {
 
 #[test]
 fn the_at_once_hub_has_the_same_turns() {
-    let command = |code, parameters: &[u8]| Call::Command { packet: frame(code, 0, parameters), room: 1024 };
-    let plug = Call::Plug {
-        index: 0,
-        address: PUBLIC.to_vec(),
-        version: 6,
-        manufacturer: 1,
-        supported: DUAL,
-        room: 1024,
-    };
-    let mut hub = AtOnceHub::new();
+    let mut hub = at_once_hub();
     let mut give = |call: Call| hub.call(&call).octets;
-    give(plug);
     assert_eq!(give(command(0x003E, &instance(3, 2, 0, &[], &[]))), added(3, true));
     give(command(0x0005, &[1]));
     give(command(0x003E, &instance(1, 2, 5, &[], &[])));

@@ -66,6 +66,7 @@ fn each_command_takes_its_length_only() {
         (0x0007, 1),
         (0x0009, 1),
         (0x000D, 1),
+        (0x002A, 1),
         (0x002B, 6),
         (0x000F, 260),
         (0x0010, 17),

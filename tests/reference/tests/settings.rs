@@ -26,7 +26,7 @@ fn power_needs_an_address() {
 }
 
 #[test]
-fn bit_15_wants_a_zero_public_address() {
+fn bit_15_wants_a_zero_public_address_where_br_edr_is_on() {
     let mut hub = hub_with(DUAL);
     assert_eq!(send(&mut hub, 0x002B, 0, &STATIC), done(unchanged(0x002B, 0, 0x0280)));
     assert_eq!(hub.state().controller(0).map(|controller| controller.static_address), Some(STATIC));
@@ -51,16 +51,14 @@ fn set_static_address_waits_for_what_is_under_way() {
 }
 
 #[test]
-fn busy_only_at_that_index_and_only_five_commands() {
+fn busy_only_at_that_index_and_only_six_commands() {
     let mut hub = hub_with(DUAL);
     plug(&mut hub, 1, DUAL);
     assert_eq!(send(&mut hub, 0x0005, 0, &[1]), bare(1));
-    let five: [(u16, &[u8]); 5] =
-        [(0x0005, &[1]), (0x0006, &[0, 0, 0]), (0x0007, &[0]), (0x000D, &[1]), (0x002B, &STATIC)];
-    for (code, parameters) in five {
+    for (code, parameters) in WAITING {
         assert_eq!(send(&mut hub, code, 0, parameters), refused(status(code, 0, 0x0A)));
     }
-    for (code, parameters) in &five[1..] {
+    for (code, parameters) in &WAITING[1..] {
         assert_eq!(send(&mut hub, *code, 1, parameters).answer, 0);
     }
     assert_eq!(send(&mut hub, 0x0005, 1, &[1]), bare(1));

@@ -73,7 +73,7 @@ fn every_reason_has_its_words() {
     texts.dedup();
     // A static address and an LE Random one in a list are refused in the same words.
     assert_eq!(texts.len(), Reason::ALL.len() - 1);
-    assert_eq!(texts.len(), 49);
+    assert_eq!(texts.len(), 52);
 }
 
 #[test]
@@ -102,7 +102,10 @@ fn taken_is_said_of_what_is_done_or_started() {
     for (code, parameters) in cases {
         assert_eq!(why(&hub, code, &parameters), "would be taken", "{code:#06x}");
     }
-    assert_eq!(why(&hub_with(DUAL), 0x002B, &STATIC), "would be taken");
+    assert_eq!(why(&hub, 0x002A, &[1]), "would be taken");
+    for (code, parameters) in [(0x002A, vec![0]), (0x002A, vec![1]), (0x002B, STATIC.to_vec())] {
+        assert_eq!(why(&hub_with(DUAL), code, &parameters), "would be taken");
+    }
     for code in 1..=3 {
         assert_eq!(why_packet(&Hub::new(), &frame(code, 0xFFFF, &[])), "would be taken");
     }
@@ -128,7 +131,7 @@ fn code_then_index_then_length() {
         assert_eq!(why_packet(&hub, &frame(code, 0xFFFF, &[1])), length);
     }
     for code in
-        [0x04, 0x05, 0x06, 0x07, 0x09, 0x0D, 0x0F, 0x10, 0x11, 0x1B, 0x26, 0x27, 0x2B, 0x33, 0x34, 0x3F]
+        [0x04, 0x05, 0x06, 0x07, 0x09, 0x0D, 0x0F, 0x10, 0x11, 0x1B, 0x26, 0x27, 0x2A, 0x2B, 0x33, 0x34, 0x3F]
     {
         assert_eq!(why(&hub, code, &[9; 20]), length);
     }
@@ -167,6 +170,7 @@ fn values_of_settings() {
             (0x0005, vec![2], "Invalid Parameters: the value is not 0 or 1, octet 6"),
             (0x0007, vec![3], "Invalid Parameters: the value is not 0 or 1, octet 6"),
             (0x0009, vec![0x80], "Invalid Parameters: the value is not 0 or 1, octet 6"),
+            (0x002A, vec![2], "Invalid Parameters: the value is not 0 or 1, octet 6"),
             (0x000D, vec![0xFF], "Invalid Parameters: the value is not 0 or 1, octet 6"),
             (0x0006, vec![3, 0, 0], "Invalid Parameters: the value is not 0, 1 or 2, octet 6"),
             (0x0006, vec![0xFF, 1, 1], "Invalid Parameters: the value is not 0, 1 or 2, octet 6"),
@@ -384,6 +388,9 @@ fn support_and_power_stand_behind_values() {
             (0x0012, vec![0, 0, 0], no_br_edr),
             (0x0012, vec![2, 0, 0], "Invalid Parameters: the debug flag is not 0 or 1, octet 6"),
             (0x000D, vec![0], "Rejected: without BR/EDR support Low Energy stays on"),
+            (0x002A, vec![0], no_br_edr),
+            (0x002A, vec![1], no_br_edr),
+            (0x002A, vec![2], "Invalid Parameters: the value is not 0 or 1, octet 6"),
         ],
     );
     all(
@@ -391,6 +398,8 @@ fn support_and_power_stand_behind_values() {
         &[
             (0x000D, vec![0], no_low_energy),
             (0x000D, vec![1], no_low_energy),
+            (0x002A, vec![0], no_low_energy),
+            (0x002A, vec![1], no_low_energy),
             (0x002B, vec![0; 6], no_low_energy),
             (0x0013, vec![0, 0], no_low_energy),
             (0x0030, vec![0, 0], no_low_energy),
@@ -422,6 +431,9 @@ fn busy_stands_behind_power_and_before_rejected() {
             (0x0006, vec![1, 1, 0], "Not Powered: a discoverable timeout needs power"),
             (0x0007, vec![0], busy),
             (0x000D, vec![0], busy),
+            (0x002A, vec![0], busy),
+            (0x002A, vec![1], busy),
+            (0x002A, vec![2], "Invalid Parameters: the value is not 0 or 1, octet 6"),
             (0x002B, STATIC.to_vec(), busy),
             (0x0009, vec![1], "would be taken"),
             (0x003E, instance(1, 0, 0, &[], &[]), "would be taken"),
@@ -437,6 +449,11 @@ fn busy_stands_behind_power_and_before_rejected() {
     );
     assert_eq!(send(&mut powered, 0x0007, 0, &[0]), bare(1));
     assert_eq!(why(&powered, 0x002B, &STATIC), busy);
+}
+
+#[test]
+fn busy_stands_behind_support() {
+    let busy = "Busy: another settings command is under way at this index";
     let mut le = hub_with(LE_ONLY);
     carry_out(&mut le, 0x0005, 0, &[1]);
     assert_eq!(send(&mut le, 0x000D, 0, &[1]), bare(1));

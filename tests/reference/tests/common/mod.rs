@@ -3,7 +3,7 @@
 
 #![allow(dead_code)]
 
-use reference::{Hub, Reply};
+use reference::{AtOnceHub, Call, Hub, Reply};
 
 /// BR/EDR and LE supported.
 pub const DUAL: u32 = 0x0280;
@@ -17,6 +17,9 @@ pub const PUBLIC: [u8; 6] = [1, 2, 3, 4, 5, 6];
 pub const STATIC: [u8; 6] = [9, 8, 7, 6, 5, 0xC1];
 /// Invalid Parameters.
 pub const INVALID: u8 = 0x0D;
+/// The commands that wait for what is under way, with parameters that a dual-mode controller without power takes.
+pub const WAITING: [(u16, &[u8]); 6] =
+    [(0x0005, &[1]), (0x0006, &[0, 0, 0]), (0x0007, &[0]), (0x000D, &[1]), (0x002A, &[1]), (0x002B, &STATIC)];
 
 /// A packet or an event: code, index, length, parameters.
 pub fn frame(code: u16, index: u16, parameters: &[u8]) -> Vec<u8> {
@@ -82,6 +85,20 @@ pub fn hub_with(supported: u32) -> Hub {
 pub fn plug(hub: &mut Hub, index: u64, supported: u32) {
     let reply = hub.plug(index, &PUBLIC, 6, 0x1234, supported, 1024);
     assert_eq!(reply, done(frame(4, index as u16, &[])));
+}
+
+/// A command to index 0 as a call.
+pub fn command(code: u16, parameters: &[u8]) -> Call {
+    Call::Command { packet: frame(code, 0, parameters), room: 1024 }
+}
+
+/// An at-once hub with one dual-mode controller at index 0.
+pub fn at_once_hub() -> AtOnceHub {
+    let (address, supported) = (PUBLIC.to_vec(), DUAL);
+    let mut hub = AtOnceHub::new();
+    let plug = Call::Plug { index: 0, address, version: 6, manufacturer: 1, supported, room: 1024 };
+    assert_eq!(hub.call(&plug).answer, 0);
+    hub
 }
 
 /// Sends a command that is started, and reports success.
