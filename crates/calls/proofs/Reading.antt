@@ -17,7 +17,7 @@ use Rattle.model.specs.declared.Schedule.{Schedule}
 use Rattle.model.specs.declared.Settings.{Settings}
 use Rattle.model.specs.Advertising.{advertisingRemoved, instances, removedOf, rescheduled, seconds}
 use Rattle.model.specs.Octets.{Octets, le32, event}
-use Rattle.model.specs.State.{Controller, Hub, OpenCommand, PlainHub, currentSettings, settingsOf, withAdvertising, withController, withHost, withSchedule}
+use Rattle.model.specs.State.{Controller, Hub, OpenCommand, PlainHub, currentSettings, settingsOf, withAdvertising, withController, withHost, withSchedule, Waiting}
 use Rattle.model.specs.State.{withTimer}
 use Rattle.model.specs.Hub.{finished, badArgument, clockOut, countdown, ends, stepOf, tick, tickEvents, tickSlot}
 use Rattle.model.specs.Layout.{controllersIn, decode, encode}
@@ -270,36 +270,36 @@ events-four step w x y z =
     (simp append-assoc)
 
 -- a hub by its parts
-abbrev hubOf : ℕ → List (Option Controller) → List (Option OpenCommand) → Hub
-hubOf v cs os = record { plain = record { clock = v; controllers = cs }; openCommands = os }
+abbrev hubOf : ℕ → List (Option Controller) → List (Option OpenCommand) → Waiting → Hub
+hubOf v cs os q = record { plain = record { clock = v; controllers = cs }; openCommands = os; waiting = q }
 
 -- over any hub of four
-module _ (step v : ℕ) (u : ℕ) (w x y z : Option Controller) (os : List (Option OpenCommand)) (s s₁ s₂ s₃ s₄ s₅ d d₁ d₂ d₃ d₄ : Octets) (a b c e : ℕ)
-    (h : decode s ≡ hubOf u (w ∷ x ∷ y ∷ z ∷ []) os)
+module _ (step v : ℕ) (u : ℕ) (w x y z : Option Controller) (os : List (Option OpenCommand)) (q : Waiting) (s s₁ s₂ s₃ s₄ s₅ d d₁ d₂ d₃ d₄ : Octets) (a b c e : ℕ)
+    (h : decode s ≡ hubOf u (w ∷ x ∷ y ∷ z ∷ []) os q)
     (t₀ : Ticked s step 0 0 a d d₁ s₁) (t₁ : Ticked s₁ step 1 a b d₁ d₂ s₂) (t₂ : Ticked s₂ step 2 b c d₂ d₃ s₃) (t₃ : Ticked s₃ step 3 c e d₃ d₄ s₄)
     (put : s₅ ≡ encode (withClock (decode s₄) v)) where
   -- the hub when index 0 is counted down
-  h₁ : decode s₁ ≡ hubOf u (tickSlot step w ∷ x ∷ y ∷ z ∷ []) os
+  h₁ : decode s₁ ≡ hubOf u (tickSlot step w ∷ x ∷ y ∷ z ∷ []) os q
   unfolding tickedAt withController
   h₁ = t₀ .hub ∙ rw h
 
   -- the same, and index 1
-  h₂ : decode s₂ ≡ hubOf u (tickSlot step w ∷ tickSlot step x ∷ y ∷ z ∷ []) os
+  h₂ : decode s₂ ≡ hubOf u (tickSlot step w ∷ tickSlot step x ∷ y ∷ z ∷ []) os q
   unfolding tickedAt withController
   h₂ = t₁ .hub ∙ rw h₁
 
   -- the same, and index 2
-  h₃ : decode s₃ ≡ hubOf u (tickSlot step w ∷ tickSlot step x ∷ tickSlot step y ∷ z ∷ []) os
+  h₃ : decode s₃ ≡ hubOf u (tickSlot step w ∷ tickSlot step x ∷ tickSlot step y ∷ z ∷ []) os q
   unfolding tickedAt withController
   h₃ = t₂ .hub ∙ rw h₂
 
   -- the same, and index 3: all four slots are ticked
-  h₄ : decode s₄ ≡ hubOf u (map (tickSlot step) (w ∷ x ∷ y ∷ z ∷ [])) os
+  h₄ : decode s₄ ≡ hubOf u (map (tickSlot step) (w ∷ x ∷ y ∷ z ∷ [])) os q
   unfolding tickedAt withController
   h₄ = t₃ .hub ∙ rw h₃
 
   -- with the new reading put in, the state is that of the model's hub
-  pub state-four : s₅ ≡ encode (hubOf v (map (tickSlot step) (w ∷ x ∷ y ∷ z ∷ [])) os)
+  pub state-four : s₅ ≡ encode (hubOf v (map (tickSlot step) (w ∷ x ∷ y ∷ z ∷ [])) os q)
   unfolding withClock
   state-four = put ∙ rw h₄
 
@@ -354,6 +354,6 @@ clock-done s s₁ s₂ s₃ s₄ s₅ d d₁ d₂ d₃ d₄ last step reading a 
     rw (o, ← q)
     (ends-done s (tickEvents step 0 (decode s .plain .controllers))
     (record { clock = reading; controllers = map (tickSlot step) (decode s .plain .controllers) }) e d d₄ s₅ r n
-    (sym (count-four step reading _ _ _ _ _ _ s s₁ s₂ s₃ s₄ s₅ d d₁ d₂ d₃ d₄ a b c e refl t₀ t₁ t₂ t₃ put)) (omega arith)
-    (reply-four step reading _ _ _ _ _ _ s s₁ s₂ s₃ s₄ s₅ d d₁ d₂ d₃ d₄ a b c e refl t₀ t₁ t₂ t₃ put)
-    (state-four step reading _ _ _ _ _ _ s s₁ s₂ s₃ s₄ s₅ d d₁ d₂ d₃ d₄ a b c e refl t₀ t₁ t₂ t₃ put))
+    (sym (count-four step reading _ _ _ _ _ _ _ s s₁ s₂ s₃ s₄ s₅ d d₁ d₂ d₃ d₄ a b c e refl t₀ t₁ t₂ t₃ put)) (omega arith)
+    (reply-four step reading _ _ _ _ _ _ _ s s₁ s₂ s₃ s₄ s₅ d d₁ d₂ d₃ d₄ a b c e refl t₀ t₁ t₂ t₃ put)
+    (state-four step reading _ _ _ _ _ _ _ s s₁ s₂ s₃ s₄ s₅ d d₁ d₂ d₃ d₄ a b c e refl t₀ t₁ t₂ t₃ put))

@@ -19,7 +19,11 @@ use Rattle.octets.specs.Parts.{writeAt}
 
 -- the hub with the controller at index i taken the step on
 unfoldable pub tickedAt : ℕ → ℕ → Hub → Hub
-tickedAt step i h = record { plain = withController (h .plain) i (tickSlot step (getD (h .plain .controllers) i none)); openCommands = h .openCommands }
+tickedAt step i h = record {
+  plain = withController (h .plain) i (tickSlot step (getD (h .plain .controllers) i none));
+  openCommands = h .openCommands;
+  waiting = h .waiting;
+}
 
 -- New Settings, if a timer ends and leaves these settings
 unfoldable pub endEvent : Bool → ℕ → Settings → Octets

@@ -32,6 +32,7 @@ use Rattle.rules.specs.Decisions.{settingsOk}
 use Rattle.rules.proofs.Ties.{timer-ok-is}
 use Rattle.checks.proofs.Tests.{and-on, one-test, part-bytes, same-append, same-zeros, u16-lt}
 use Rattle.checks.specs.Blocks.{blockOk}
+use Rattle.checks.specs.Waiting.{waitingOctetsOk}
 use Rattle.checks.proofs.Blocks.{blocksOk, state-blocks}
 use Rattle.checks.specs.Tables.{tablesOctetsOk}
 use Rattle.checks.proofs.Tables.{drop-part, length-regions, tables-are, tables-cut, total-six}
@@ -277,9 +278,12 @@ four-blocks : (o p q r : Octets) → drop Lengths.block o ≡ p → drop Lengths
     ≡ blockOk (take Lengths.block o) && (blockOk (take Lengths.block p) && (blockOk (take Lengths.block q) && blockOk (take Lengths.block r)))
 four-blocks o p q r e f g = rw (next-block 3 o p e, next-block 2 p q f, next-block 1 q r g, last-block r)
 
--- a state is well formed if it has the right length, and each of its four blocks is well formed
+-- a state is well formed if it has the right length, and each of its four blocks and its waiting octets are well formed
 pub state-is : (s : Octets) → bytes s ≡ true
-    → stateOk s ≡ eqb (length s) Lengths.state && (blockOk (blockAt s 0) && (blockOk (blockAt s 1) && (blockOk (blockAt s 2) && blockOk (blockAt s 3))))
+    → stateOk s
+    ≡ eqb (length s) Lengths.state
+    && ((blockOk (blockAt s 0) && (blockOk (blockAt s 1) && (blockOk (blockAt s 2) && blockOk (blockAt s 3))))
+    && waitingOctetsOk (drop Lengths.blocksEnd s))
 unfolding part
 state-is s w =
     let a : drop Lengths.block (drop 4 s) ≡ drop 4376 s = drop-drop Lengths.block 4 s in

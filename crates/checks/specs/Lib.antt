@@ -4,3 +4,4 @@ pub mod Open
 pub mod Settings
 pub mod Advertising
 pub mod Present
+pub mod Waiting

@@ -1,7 +1,7 @@
 // Whether lent octets are a well-formed state: for any octets of any length, the model's own test.
 ghost use mathlib.Core.Path.{_≡_};
 ghost use Prim.Native.Nat.{_+_, _*_, _≤_, _<_};
-ghost use lib.ListN.{length};
+ghost use lib.ListN.{drop, length};
 ghost use Rattle.model.specs.Lengths as Lengths;
 ghost use Rattle.model.specs.declared.Hardware.{Hardware};
 ghost use Rattle.model.specs.Octets.{allZero, u16};
@@ -17,6 +17,7 @@ ghost use Rattle.checks.specs.Open.{openOctetsOk};
 ghost use Rattle.checks.specs.Present.{blockAt, controllerOctetsOk};
 ghost use Rattle.checks.specs.Settings.{flagsOctetsOk};
 ghost use Rattle.checks.specs.Tables.{tableOctetsOk, tablesOctetsOk};
+ghost use Rattle.checks.specs.Waiting.{waitingOctetsOk};
 use model::RadioSettings;
 use model::codes;
 use model::lengths;
@@ -199,6 +200,24 @@ fn block_ok(s: &[u8], i: u64) -> bool
     blank(s, block_place(i), lengths::BLOCK)
 }
 
+// Whether less than one packet waits, with zeros behind what is kept of it.
+fn waiting_ok(s: &[u8]) -> bool
+    requires { ⌜ length (now s) ≡ Lengths.state ⌝ }
+    ensures { λ r. ⌜ r ≡ waitingOctetsOk (drop Lengths.blocksEnd (now (s .entry))) ⌝ }
+{
+    let n = layout::waiting::taken(s);
+    let said = layout::waiting::kept_said(s);
+    if n < said {
+        let kept = layout::waiting::kept_count(n, said);
+        return blank(
+            s,
+            layout::waiting::KEPT + kept,
+            lengths::LONGEST_KEPT - kept,
+        );
+    }
+    false
+}
+
 // Whether lent octets are a well-formed state.
 pub fn well_formed(state: &[u8]) -> bool
     ensures { λ r. ⌜ r ≡ stateOk (now (state .entry)) ⌝ }
@@ -207,7 +226,9 @@ pub fn well_formed(state: &[u8]) -> bool
         if block_ok(state, 0) {
             if block_ok(state, 1) {
                 if block_ok(state, 2) {
-                    return block_ok(state, 3);
+                    if block_ok(state, 3) {
+                        return waiting_ok(state);
+                    }
                 }
             }
         }

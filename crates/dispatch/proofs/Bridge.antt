@@ -33,8 +33,8 @@ use Rattle.model.specs.declared.Answer.the-variants.{Refused}
 use Rattle.outcomes.specs.Outcomes.{generalCommand, immediateCommand, radioCommand, anyCommand, ended}
 use Rattle.outcomes.proofs.Endings.{ends-refused}
 use Rattle.outcomes.proofs.Routes.{route-unknown, route-general, route-immediate, route-immediate-absent, route-radio, route-radio-absent}
-use Rattle.dispatch.specs.Groups.{member, settingsCodes, keyCodes, deviceCodes, advertisingCodes, informationCodes, controllerCodes}
-use Rattle.dispatch.proofs.Groups.{generalCodes, member-rest, member-last, member-other, rule-unknown}
+use Rattle.dispatch.specs.Groups.{member, generalCodes, settingsCodes, keyCodes, deviceCodes, advertisingCodes, informationCodes, controllerCodes}
+use Rattle.dispatch.proofs.Groups.{member-rest, member-last, member-other, rule-unknown}
 
 -- 1. A code's function --------------------------------------------------------------------------------------------------------------------------
 

@@ -10,11 +10,7 @@ use Rattle.model.specs.Codes as Codes
 use Rattle.model.specs.Rules.{Rule}
 use Rattle.model.specs.Commands.{Row, rows, find, rule}
 use Rattle.model.specs.Proof.Tests.{no-way, equal, and-true, or-false}
-use Rattle.dispatch.specs.Groups.{member, settingsCodes, keyCodes, deviceCodes, advertisingCodes, informationCodes, controllerCodes}
-
--- 0x0001 to 0x0003, to no controller
-unfoldable pub generalCodes : List ℕ
-generalCodes = Codes.readVersion ∷ Codes.readCommands ∷ Codes.readIndexes ∷ []
+use Rattle.dispatch.specs.Groups.{member, generalCodes, settingsCodes, keyCodes, deviceCodes, advertisingCodes, informationCodes, controllerCodes}
 
 -- of a list with a code left out, the others
 pub member-rest : (code c : ℕ) (cs : List ℕ) → member code (c ∷ cs) ≡ true → (code ≡ c → ⊥) → member code cs ≡ true

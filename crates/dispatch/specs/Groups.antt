@@ -10,6 +10,10 @@ unfoldable pub member : ℕ → List ℕ → Bool
 member code [] = false
 member code (c ∷ cs) = eqb code c || member code cs
 
+-- 0x0001 to 0x0003, to no controller
+unfoldable pub generalCodes : List ℕ
+generalCodes = Codes.readVersion ∷ Codes.readCommands ∷ Codes.readIndexes ∷ []
+
 -- settings
 unfoldable pub settingsCodes : List ℕ
 settingsCodes =

@@ -1,4 +1,6 @@
 // A command to the function that serves it.
+pub mod long;
+
 ghost use mathlib.Core.Path.{_≡_};
 ghost use mathlib.Core.Bool.{true};
 ghost use Prim.Native.Nat.{_≤_};

@@ -1,18 +1,21 @@
 -- Laws of what an exported function returns and leaves.
-use Prim.Native.Nat.{ℕ, _≤_}
+use Prim.Native.Nat.{ℕ, _+_, _*_, _^_, _≤_, _<_}
 use native.Mathlib.Omega.{arith}
 use mathlib.Core.Path.{_≡_, refl, _∙_}
-use mathlib.Core.Bool.{false}
+use mathlib.Core.Bool.{false, true}
 use Rattle.model.specs.Lengths as Lengths
-use Rattle.model.specs.Octets.{Octets}
+use Rattle.model.specs.Octets.{Octets, bytes}
 use Rattle.model.specs.Hub.{Call, Result}
-use Rattle.model.specs.Meanings.{stateOk, badState, meaning}
-use Rattle.model.specs.Theorems.{no-reply-longer, room-most}
+use Rattle.model.specs.Stream.{Streamed}
+use Rattle.model.specs.Meanings.{stateOk, badState, hubStream, meaning}
+use Rattle.model.specs.Theorems.{no-lump-reply-longer, no-reply-longer, room-most}
 use Rattle.model.specs.Answers.{countOf}
 use Rattle.replies.specs.Answers.{Gives}
 use Rattle.model.specs.declared.Answer.{Answer}
 use Rattle.model.specs.declared.Answer.the-variants.{BadState}
-use Rattle.hub.specs.Entries.{packed, Returns}
+use Rattle.hub.proofs.Laws.{number-small}
+use Rattle.hub.proofs.Lumps.{lump-most}
+use Rattle.hub.specs.Entries.{LumpAnswer, packed, Returns, ReturnsTaken, Takes}
 
 -- what a call gives, packed
 pub returns-packed : (o : Result Octets) (a : Answer) (r : ℕ) (before after left : Octets) → Gives o a before after left → r ≡ packed a
@@ -28,3 +31,21 @@ gives-bad s c r d e n = rw (e, meaning, n) (record { answer = refl; count = refl
 -- no call's count is longer than the largest image
 pub count-call : (s : Octets) (c : Call) (a : Answer) (before after left : Octets) → Gives (meaning s c) a before after left → countOf a ≤ Lengths.largestImage
 count-call s c a before after left g = rw (g .count) (omega (arith, no-reply-longer s c, room-most c))
+
+-- what came of a lump, packed
+pub returns-taken : (o : Streamed Octets) (a : LumpAnswer) (r n : ℕ) (before after left : Octets) → Takes o a before after left → n ≡ packed (a .answer)
+    → r ≡ n + 2 ^ 32 * a .taken → ReturnsTaken o r before after left
+unfolding packed
+returns-taken o a r n before after left g en er =
+    record { number = er ∙ rw (en, g .gives .answer, g .gives .count, g .taken) refl; reply = g .gives .reply; state = g .gives .state }
+
+-- its count is far below that of an image, and its octets taken are at most one packet
+pub count-lump : (s o : Octets) (room : ℕ) (a : LumpAnswer) (before after left : Octets) → bytes o ≡ true → Takes (hubStream s o room) a before after left
+    → (countOf (a .answer) ≤ Lengths.largestImage) × (a .taken ≤ 65541)
+count-lump s o room a before after left w g =
+    (rw (g .gives .count) (omega (arith, no-lump-reply-longer s o room w)), rw (g .taken) (lump-most s o room w))
+
+-- an answer and its count in one number are below 2^32
+pub packed-most : (a : Answer) → countOf a ≤ Lengths.largestImage → packed a < 2 ^ 32
+unfolding packed
+packed-most a h = omega (arith, number-small a)

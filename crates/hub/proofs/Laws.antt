@@ -13,7 +13,7 @@ use Rattle.model.specs.Hub.{packetOk}
 use Rattle.model.specs.Proof.Tests.{and-true}
 use Rattle.model.specs.Answers.{numberOf}
 use Rattle.model.specs.declared.Answer.{Answer}
-use Rattle.model.specs.declared.Answer.the-variants.{Done, Started, Refused, BadPacket, SmallBuffer, BadState, BadArgument, BadImage, NotInImage}
+use Rattle.model.specs.declared.Answer.the-variants.{Done, Started, Refused, BadPacket, SmallBuffer, BadState, BadArgument, BadImage, NotInImage, Incomplete}
 
 -- a packet with a header is whole if its length field says so
 pub framed-is : (p : Octets) → 6 ≤ length p → eqb (u16 p 4) (length p - 6) ≡ packetOk p
@@ -25,8 +25,8 @@ pub framed-not : (p : Octets) → length p < 6 → false ≡ packetOk p
 unfolding packetOk
 framed-not p h = rw (lt-leb 6 (length p) h)
 
--- an answer's number is one of nine
-pub number-small : (a : Answer) → numberOf a ≤ 8
+-- an answer's number is one of ten
+pub number-small : (a : Answer) → numberOf a ≤ 9
 number-small (Done n) = omega arith
 number-small Started = omega arith
 number-small (Refused n) = omega arith
@@ -36,6 +36,7 @@ number-small BadState = omega arith
 number-small BadArgument = omega arith
 number-small BadImage = omega arith
 number-small NotInImage = omega arith
+number-small Incomplete = omega arith
 
 -- a whole packet has a header
 pub packet-long : (p : Octets) → packetOk p ≡ true → 6 ≤ length p

@@ -5,10 +5,13 @@ use mathlib.Core.List.{_++_}
 use lib.ListN.{length, drop}
 use Rattle.model.specs.Octets.{Octets}
 use Rattle.model.specs.Hub.{Result}
+use Rattle.model.specs.Stream.{Streamed}
 use Rattle.model.specs.Answers.{numberOf, countOf}
 use Rattle.model.specs.declared.Answer.{Answer}
 use Rattle.model.specs.declared.LookUpReply.{LookUpReply}
+use Rattle.replies.specs.Answers.{Gives}
 use Rattle.why.specs.Meaning.{Explained}
+pub use Rattle.hub.specs.declared.LumpAnswer.{LumpAnswer}
 
 -- an answer and its count in one number: answer + 256 x count
 unfoldable pub packed : Answer → ℕ
@@ -20,6 +23,18 @@ pub record Returns (o : Result Octets) (r : ℕ) (before after left : Octets) : 
   pub number : r ≡ o .answer + 256 * length (o .octets)
   pub reply : after ≡ o .octets ++ drop (length (o .octets)) before
   pub state : left ≡ o .state
+
+-- What came of a lump is what the model's result o says: the octets taken, and answer, reply buffer and state.
+pub record Takes (o : Streamed Octets) (r : LumpAnswer) (before after left : Octets) : Type 0 where
+  pub taken : r .taken ≡ o .taken
+  pub gives : Gives (o .result) (r .answer) before after left
+
+-- The number returned is that of the model's result o with the count of its octets and, in its upper half, the octets taken of the lump (02, E6); reply buffer
+-- and state are as the other calls leave them.
+pub record ReturnsTaken (o : Streamed Octets) (r : ℕ) (before after left : Octets) : Type 0 where
+  pub number : r ≡ o .result .answer + 256 * length (o .result .octets) + 2 ^ 32 * o .taken
+  pub reply : after ≡ o .result .octets ++ drop (length (o .result .octets)) before
+  pub state : left ≡ o .result .state
 
 -- The number returned is that of the answer with the count of its octets and, in its upper half, the status; the text buffer `before` has become `after`, with
 -- these octets at its front and the rest untouched. The state is lent for reading only.

@@ -1,18 +1,20 @@
-// The hub: the order of a call, and the eleven functions that C calls: 01's seven, and four that only read: one tells a name, one what is
-// on air, one why a packet would be refused, and one where a record stands.
+// The hub: the order of a call, and the twelve functions that C calls: 01's seven, one that takes octets off a serial line, and four that only read: one
+// tells a name, one what is on air, one why a packet would be refused, and one where a record stands.
 ghost use mathlib.Core.Path.{_≡_};
-ghost use Prim.Native.Nat.{_≤_};
+ghost use Prim.Native.Nat.{_+_, _≤_};
+ghost use mathlib.Core.List.{_++_};
 ghost use lib.ListN.{length};
 ghost use Rattle.model.specs.Lengths as Lengths;
 ghost use Rattle.model.specs.Hub as Hub;
-ghost use Rattle.model.specs.Meanings.{stateOk, meaning, hubCommand, hubReport, hubClock, hubPlug, hubUnplug, hubSave, hubLoad, hubLookUp, hubName, hubOnAir};
+ghost use Rattle.model.specs.Meanings.{stateOk, meaning, hubCommand, hubReport, hubClock, hubPlug, hubUnplug, hubSave, hubLoad, hubLookUp, hubName, hubOnAir, hubStream};
 ghost use Rattle.model.specs.Answers.{countOf};
 ghost use Rattle.replies.specs.Answers.{Gives};
 ghost use mathlib.Core.Bool.{true};
-ghost use Rattle.model.specs.Layout.{decode};
+ghost use Rattle.model.specs.Layout.{decode, lineCleared};
+ghost use Rattle.model.specs.Stream.{grown, lengthSaid, packetIn};
 ghost use Rattle.why.specs.Findings.{why};
 ghost use Rattle.why.specs.Meaning.{hubWhy, textBuffer, told};
-ghost use Rattle.hub.specs.Entries.{packed, lookUpNumber, Explains, Returns};
+ghost use Rattle.hub.specs.Entries.{packed, lookUpNumber, Explains, Returns, ReturnsTaken, Takes};
 use model::Answer;
 use model::LookUpReply;
 use model::lengths;
@@ -28,6 +30,12 @@ fn packet_ok(packet: &[u8]) -> bool
     false
 }
 
+// What came of a lump: the answer, and how many of its octets were taken.
+pub struct LumpAnswer {
+    pub answer: Answer,
+    pub taken: usize,
+}
+
 // An answer and its count in one number.
 fn pack(a: Answer) -> u64
     requires { ⌜ countOf a ≤ Lengths.largestImage ⌝ }
@@ -37,7 +45,23 @@ fn pack(a: Answer) -> u64
     replies::number(a) + 256 * n
 }
 
-// A command packet: state, room, frame, then the function that serves its code.
+// A whole packet, on a well-formed state and with room for a reply: the function that serves its code.
+fn serve(state: &mut [u8], packet: &[u8], reply: &mut [u8]) -> Answer
+    requires { ⌜
+        (stateOk (now state) ≡ true) × (length (now state) ≡ Lengths.state) × (Hub.packetOk (now packet) ≡ true)
+        × (Lengths.replyBuffer ≤ length (now reply))
+        ⌝ }
+    ensures { λ r. ⌜
+        Gives (meaning (now (state .entry)) (Hub.command (length (now (reply .entry))) (now (packet .entry)))) r (now (reply .entry))
+        (now (reply .exit)) (now (state .exit))
+        ⌝ }
+{
+    let code = octets::u16_at(packet, 0);
+    let index = octets::u16_at(packet, 2);
+    dispatch::dispatch(state, index, code, &packet[6..], reply)
+}
+
+// A command packet: state, room, frame, then what serves it.
 fn command(state: &mut [u8], packet: &[u8], reply: &mut [u8]) -> Answer
     ensures { λ r. ⌜
         Gives (meaning (now (state .entry)) (Hub.command (length (now (reply .entry))) (now (packet .entry)))) r (now (reply .entry))
@@ -47,15 +71,91 @@ fn command(state: &mut [u8], packet: &[u8], reply: &mut [u8]) -> Answer
     if checks::well_formed(state) {
         if lengths::REPLY_BUFFER <= reply.len() {
             if packet_ok(packet) {
-                let code = octets::u16_at(packet, 0);
-                let index = octets::u16_at(packet, 2);
-                return dispatch::dispatch(state, index, code, &packet[6..], reply);
+                return serve(state, packet, reply);
             }
             return Answer::BadPacket;
         }
         return Answer::SmallBuffer;
     }
     Answer::BadState
+}
+
+// The last octets of a packet that was waiting: it is put together beside the state, and served, or refused by its head where it is too long to be kept.
+fn finish(state: &mut [u8], said: usize, lump: &[u8], reply: &mut [u8]) -> Answer
+    requires { ⌜
+        (stateOk (now state) ≡ true) × (length (now state) ≡ Lengths.state)
+        × (said ≡ lengthSaid (decode (now state) .waiting .kept ++ now lump)) × (decode (now state) .waiting .taken + length (now lump) ≡ said)
+        × (Lengths.replyBuffer ≤ length (now reply))
+        ⌝ }
+    ensures { λ r. ⌜
+        Gives (meaning (lineCleared (now (state .entry)))
+        (Hub.command (length (now (reply .entry))) (packetIn (grown (decode (now (state .entry)) .waiting) (now (lump .entry))))))
+        r (now (reply .entry)) (now (reply .exit)) (now (state .exit))
+        ⌝ }
+{
+    let mut packet: [u8; 1160] = [0; 1160];
+    layout::waiting::gather(&mut packet, state, said, lump);
+    layout::waiting::clear(state);
+    if said <= lengths::LONGEST_KEPT {
+        return serve(state, &packet[..said], reply);
+    }
+    let code = octets::u16_at(&packet, 0);
+    let index = octets::u16_at(&packet, 2);
+    dispatch::long::refuse(state, index, code, said - 6, &packet[6..10], reply)
+}
+
+// A lump, with room for a reply: its octets up to the end of the packet that is coming in. A packet that lies whole in it, with nothing waiting, is
+// served where it lies.
+fn take_in(state: &mut [u8], lump: &[u8], reply: &mut [u8]) -> LumpAnswer
+    requires { ⌜ (stateOk (now state) ≡ true) × (length (now state) ≡ Lengths.state) × (Lengths.replyBuffer ≤ length (now reply)) ⌝ }
+    ensures { λ r. ⌜
+        Takes (hubStream (now (state .entry)) (now (lump .entry)) (length (now (reply .entry)))) r (now (reply .entry)) (now (reply .exit))
+        (now (state .exit))
+        ⌝ }
+{
+    let said = layout::waiting::length_said(state, lump);
+    let left = said - layout::waiting::taken(state);
+    if lump.len() < left {
+        layout::waiting::grow(state, said, lump);
+        return LumpAnswer {
+            answer: Answer::Incomplete,
+            taken: lump.len(),
+        };
+    }
+    if left == said {
+        let answer = serve(state, &lump[..said], reply);
+        return LumpAnswer {
+            answer,
+            taken: said,
+        };
+    }
+    let answer = finish(state, said, &lump[..left], reply);
+    LumpAnswer {
+        answer,
+        taken: left,
+    }
+}
+
+// Octets off the serial line: state, room, then those that are taken.
+fn stream(state: &mut [u8], lump: &[u8], reply: &mut [u8]) -> LumpAnswer
+    ensures { λ r. ⌜
+        Takes (hubStream (now (state .entry)) (now (lump .entry)) (length (now (reply .entry)))) r (now (reply .entry)) (now (reply .exit))
+        (now (state .exit))
+        ⌝ }
+{
+    if checks::well_formed(state) {
+        if lengths::REPLY_BUFFER <= reply.len() {
+            return take_in(state, lump, reply);
+        }
+        return LumpAnswer {
+            answer: Answer::SmallBuffer,
+            taken: 0,
+        };
+    }
+    LumpAnswer {
+        answer: Answer::BadState,
+        taken: 0,
+    }
 }
 
 // A report of the radio.
@@ -223,6 +323,19 @@ pub extern "C" fn hub_command(state: &mut [u8], packet: &[u8], reply: &mut [u8])
 {
     let a = command(state, packet, reply);
     pack(a)
+}
+
+// C's call of octets off the serial line.
+#[no_mangle]
+pub extern "C" fn hub_stream(state: &mut [u8], octets: &[u8], reply: &mut [u8]) -> u64
+    ensures { λ r. ⌜
+        ReturnsTaken (hubStream (now (state .entry)) (now (octets .entry)) (length (now (reply .entry)))) r (now (reply .entry)) (now (reply .exit))
+        (now (state .exit))
+        ⌝ }
+{
+    let a = stream(state, octets, reply);
+    let answer = a.answer;
+    pack(answer) + 0x100000000 * (a.taken as u64)
 }
 
 // C's call of a report.

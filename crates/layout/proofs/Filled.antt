@@ -13,9 +13,9 @@ use Rattle.model.specs.declared.Hardware.{Hardware}
 use Rattle.model.specs.Octets.{Octets, le16, le32}
 use Rattle.model.specs.Advertising.{noAdvertising, noSchedule}
 use Rattle.model.specs.Commands.{words}
-use Rattle.model.specs.State.{OpenCommand, bredrSupported, flag, fresh, idle, leSupported, noTables, noTimer, plugged, settingsOf}
+use Rattle.model.specs.State.{OpenCommand, bredrSupported, flag, fresh, idle, leSupported, noTables, noTimer, nothingWaits, plugged, settingsOf}
 use Rattle.model.specs.Tables.{blockedRule, deviceRule, identityKeyRule, linkKeyRule, longTermKeyRule, tableRules, uuidRule}
-use Rattle.model.specs.Layout.{dataPart, schedulePart}
+use Rattle.model.specs.Layout.{dataPart, schedulePart, waitingPart}
 use Rattle.model.specs.Layout.{block, blocks, decode, encode, hardwarePart, occupancy, openPart, region, settingsPart, slotOctets, slots}
 use Rattle.model.specs.Meanings.{stateOk}
 use Rattle.model.specs.Proof.Demand3.{state-back, state-well}
@@ -118,7 +118,7 @@ module _ (s : Octets) (i : ℕ) (f : Hardware) (ok : stateOk s ≡ true) (l : i 
 
 -- zeros are the fresh state
 fresh-zeros : (n : ℕ) → n ≡ Lengths.state → replicate n 0 ≡ encode (idle fresh)
-unfolding encode idle fresh blocks block le32
+unfolding encode idle fresh nothingWaits blocks block waitingPart le32
 fresh-zeros n e = rw e
 
 -- a state of the right length made zero

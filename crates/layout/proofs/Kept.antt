@@ -15,7 +15,7 @@ use Rattle.model.specs.WellFormed.{controllerOk, openOk, opensOk, plainOk, slot
 use Rattle.model.specs.Layout.{decode, encode}
 use Rattle.model.specs.Proof.Decode.{decode-encode}
 use Rattle.model.specs.Proof.Demand3.{encode-ok, state-well}
-use Rattle.model.specs.Proof.Keeps.{opens-at, slot-four}
+use Rattle.model.specs.Proof.Keeps.{opens-at, slot-four, well-fit}
 use Rattle.model.specs.Proof.Stays.{fit-plain, plain-fit, slots-set}
 use Rattle.model.specs.Proof.Tests.{and-true, both, no-way}
 use Rattle.layout.specs.Places.{Ready, controllerOf, openAt, presentAt, putController}
@@ -41,12 +41,12 @@ pub slot-well : (h : Hub) (i : ℕ) (x : Option Controller) (o : Option OpenComm
     → wellFormed (withSlot h i x o) ≡ true
 unfolding wellFormed withSlot withController
 slot-well h i x o e k n =
-    let a = and-true (plainOk (h .plain)) _ e in
-    let f = plain-fit (h .plain) (a .0) in
+    let a = well-fit h e in
+    let f = plain-fit (h .plain) (a .plain) in
     let p : plainOk (withController (h .plain) i x) ≡ true =
     fit-plain (withController (h .plain) i x) (record
     { four = rw (length-set (h .plain .controllers) i x) (f .four); clock = f .clock; slots = slots-set (h .plain .controllers) i x (f .slots) k }) in
-    both p (opens-set (h .plain .controllers) (h .openCommands) i x o (a .1) n)
+    both p (both (opens-set (h .plain .controllers) (h .openCommands) i x o (a .openCommands) n) (a .waiting))
 
 -- a controller changed
 pub put-well : (h : Hub) (i : ℕ) (c : Controller) → wellFormed h ≡ true → controllerOk c ≡ true → openOk (some c) (underWay h i) ≡ true
@@ -129,7 +129,7 @@ module _ (s : Octets) (i : ℕ) (r : Ready s i) where
   pub open-fine : openOk (some (controllerOf s i)) (openAt s i) ≡ true
   unfolding wellFormed openAt
   open-fine =
-      let a = opens-at (decode s .plain .controllers) (decode s .openCommands) i (and-true (plainOk (decode s .plain)) _ well .1) in
+      let a = opens-at (decode s .plain .controllers) (decode s .openCommands) i (well-fit (decode s) well .openCommands) in
       rw (present-slot s i (r .here)) at a
 
   -- it is fine beside a controller with the same radio

@@ -18,7 +18,7 @@ use Rattle.model.specs.Tables.{TableRule, blockedRule, deviceRule, identityKeyR
 use Rattle.model.specs.Image.{radioOk}
 use Rattle.model.specs.WellFormed.{advertisingOk, controllerOk, plainOk, slotOk, slotsOk, tableOk, tablesOk, wellFormed}
 use Rattle.model.specs.Layout.{advertisingPart, dataPart, schedulePart}
-use Rattle.model.specs.Layout.{block, blocks, controllerPart, encode, hardwarePart, openPart, region, regions, settingsPart}
+use Rattle.model.specs.Layout.{block, blocks, controllerPart, encode, hardwarePart, openPart, region, regions, settingsPart, waitingPart}
 use Rattle.model.specs.Proof.Decode.{length-region}
 use Rattle.model.specs.Proof.Advertising.{five-each}
 use Rattle.model.specs.Proof.Layout.{length-block, length-data, length-open, length-schedule}
@@ -26,9 +26,9 @@ use Rattle.model.specs.Proof.Parts.{controller-fit}
 use Rattle.model.specs.Proof.Stays.{plain-fit}
 use Rattle.model.specs.Proof.Tests.{and-true, equal, no-way}
 use Rattle.octets.specs.Parts.{part, placeAt, writeAt}
-use Rattle.octets.proofs.Parts.{join, join-read, join-write, length-writeAt, lengths, part-right, write-right, write-whole}
+use Rattle.octets.proofs.Parts.{join, join-read, join-write, length-writeAt, lengths, part-left, part-right, write-left, write-right, write-whole}
 use Rattle.layout.specs.Places.{base, placeOf, sizes}
-use Rattle.model.specs.Proof.Keeps.{opens-length}
+use Rattle.model.specs.Proof.Keeps.{opens-length, well-fit}
 
 -- 1. The pieces of a block, and the blocks of the state -----------------------------------------------------------------------------------------
 
@@ -126,6 +126,12 @@ even-place [] i l e = absurd (omega arith)
 even-place (p ∷ ps) zero l e = refl
 even-place (p ∷ ps) (suc i) l e = rw (e .0, even-place ps i (omega arith) (e .1)) (omega arith)
 
+-- and all of them together are as long as so many blocks
+even-length : (ps : List Octets) → Even ps → length (join ps) ≡ Lengths.block * length ps
+unfolding join Even
+even-length [] e = refl
+even-length (p ∷ ps) e = length-append p (join ps) ∙ omega (arith, e .0, even-length ps (e .1))
+
 -- so it stays with a piece of that length in the place of another
 even-set : (ps : List Octets) (i : ℕ) (p : Octets) → length p ≡ Lengths.block → Even ps → Even (set ps i p)
 unfolding Even
@@ -151,10 +157,10 @@ pub record Shaped (h : Hub) (i : ℕ) : Type 0 where
 pub shaped : (h : Hub) (i : ℕ) → wellFormed h ≡ true → i < 4 → Shaped h i
 unfolding wellFormed
 shaped h i e l =
-    let a = and-true (plainOk (h .plain)) _ e in
-    let f = plain-fit (h .plain) (a .0) in
+    let a = well-fit h e in
+    let f = plain-fit (h .plain) (a .plain) in
     let n : length (h .plain .controllers) ≡ 4 = equal _ _ (f .four) in
-    let m : length (h .openCommands) ≡ length (h .plain .controllers) = opens-length (h .plain .controllers) (h .openCommands) (a .1) in
+    let m : length (h .openCommands) ≡ length (h .plain .controllers) = opens-length (h .plain .controllers) (h .openCommands) (a .openCommands) in
     record { below = omega arith; beside = omega arith; even = even-blocks (h .plain .controllers) (h .openCommands) (f .slots) }
 
 -- 4. Lengths of pieces --------------------------------------------------------------------------------------------------------------------------
@@ -259,7 +265,7 @@ pieces-sized c o e =
 
 -- the state of h with any octets b in block i: what stands between two writes
 unfoldable pub withBlock : Hub → ℕ → Octets → Octets
-withBlock h i b = le32 (h .plain .clock) ++ join (set (blockPieces (h .plain .controllers) (h .openCommands)) i b)
+withBlock h i b = le32 (h .plain .clock) ++ (join (set (blockPieces (h .plain .controllers) (h .openCommands)) i b) ++ waitingPart (h .waiting))
 
 -- a place behind the clock
 behind : (x u v : ℕ) → 4 + u + v ≡ length (le32 x) + (u + v)
@@ -281,6 +287,11 @@ module _ (h : Hub) (i : ℕ) (s : Shaped h i) (b : Octets) (z : length b ≡ Len
   unfolding blocksNow
   now-place = even-place blocksNow i now-below (even-set (blockPieces (h .plain .controllers) (h .openCommands)) i b z (s .even))
 
+  -- together they are as long as so many blocks
+  now-long : length (join blocksNow) ≡ Lengths.block * length blocksNow
+  unfolding blocksNow
+  now-long = even-length blocksNow (even-set (blockPieces (h .plain .controllers) (h .openCommands)) i b z (s .even))
+
   -- block i is b
   now-get : getD blocksNow i [] ≡ b
   unfolding blocksNow
@@ -292,18 +303,23 @@ module _ (h : Hub) (i : ℕ) (s : Shaped h i) (b : Octets) (z : length b ≡ Len
   unfolding withBlock blocksNow
   block-read a n f =
       let j = join-read blocksNow i a n (rw (now-get, z) f) in
+      let l : Lengths.block * i + a + n ≤ length (join blocksNow) = rw now-long (omega (arith, now-below)) in
       rw (behind (h .plain .clock) (Lengths.block * i) a)
-      (part-right (le32 (h .plain .clock)) (join blocksNow) (Lengths.block * i + a) n ∙ (rw (now-place, now-get) at j))
+      (part-right (le32 (h .plain .clock)) (join blocksNow ++ waitingPart (h .waiting)) (Lengths.block * i + a) n
+      ∙ part-left (join blocksNow) (waitingPart (h .waiting)) (Lengths.block * i + a) n l
+      ∙ (rw (now-place, now-get) at j))
 
   -- writing in block i
   pub block-write : (a : ℕ) (w : Octets) → a + length w ≤ Lengths.block → writeAt (withBlock h i b) (base i + a) w ≡ withBlock h i (writeAt b a w)
   unfolding withBlock blocksNow
   block-write a w f =
       let j = join-write blocksNow i a w now-below (rw (now-get, z) f) in
-      let r = write-right (le32 (h .plain .clock)) (join blocksNow) (Lengths.block * i + a) w in
+      let l : Lengths.block * i + a + length w ≤ length (join blocksNow) = rw now-long (omega (arith, now-below)) in
+      let r = write-right (le32 (h .plain .clock)) (join blocksNow ++ waitingPart (h .waiting)) (Lengths.block * i + a) w in
+      let g = write-left (join blocksNow) (waitingPart (h .waiting)) (Lengths.block * i + a) w l in
       let k : writeAt (join blocksNow) (Lengths.block * i + a) w ≡ join
       (set (blockPieces (h .plain .controllers) (h .openCommands)) i (writeAt b a w)) = (rw (now-place, now-get, set-set) at j) in
-      rw (behind (h .plain .clock) (Lengths.block * i) a) (r ∙ ap (λ (x : Octets). le32 (h .plain .clock) ++ x) k)
+      rw (behind (h .plain .clock) (Lengths.block * i) a) (r ∙ ap (λ (x : Octets). le32 (h .plain .clock) ++ x) (g ∙ ap (λ (x : Octets). x ++ waitingPart (h .waiting)) k))
 
   -- the whole block written anew
   pub block-put : (w : Octets) → length w ≡ Lengths.block → writeAt (withBlock h i b) (base i) w ≡ withBlock h i w
@@ -352,7 +368,7 @@ state-is h i l = rw (join-blocks (h .plain .controllers) (h .openCommands), ← 
 
 -- the hub with another controller, or none, and another open command, or none, at index i
 unfoldable pub withSlot : Hub → ℕ → Option Controller → Option OpenCommand → Hub
-withSlot h i x o = record { plain = withController (h .plain) i x; openCommands = set (h .openCommands) i o }
+withSlot h i x o = record { plain = withController (h .plain) i x; openCommands = set (h .openCommands) i o; waiting = h .waiting }
 
 -- the state with their block is the state of that hub
 pub state-put : (h : Hub) (i : ℕ) (x : Option Controller) (o : Option OpenCommand) → i < length (h .openCommands)

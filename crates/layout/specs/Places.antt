@@ -73,15 +73,15 @@ transportsOf f = flag (bredrSupported f) 1 ∷ flag (leSupported f) 1 ∷ []
 
 -- the hub with controller i changed
 unfoldable pub putController : Hub → ℕ → Controller → Hub
-putController h i c = record { plain = withController (h .plain) i (some c); openCommands = h .openCommands }
+putController h i c = record { plain = withController (h .plain) i (some c); openCommands = h .openCommands; waiting = h .waiting }
 
 -- the hub with index i empty, and nothing under way there
 unfoldable pub emptied : Hub → ℕ → Hub
-emptied h i = record { plain = withController (h .plain) i none; openCommands = set (h .openCommands) i none }
+emptied h i = record { plain = withController (h .plain) i none; openCommands = set (h .openCommands) i none; waiting = h .waiting }
 
 -- the hub with another reading of the clock
 unfoldable pub withClock : Hub → ℕ → Hub
-withClock h v = record { plain = record { clock = v; controllers = h .plain .controllers }; openCommands = h .openCommands }
+withClock h v = record { plain = record { clock = v; controllers = h .plain .controllers }; openCommands = h .openCommands; waiting = h .waiting }
 
 -- 4. What a command may assume ----------------------------------------------------------------------------------------------------------------
 

@@ -14,11 +14,13 @@ pub mod Immediate
 pub mod Commands
 pub mod Image
 pub mod Hub
+pub mod Stream
 pub mod WellFormed
 pub mod Layout
 pub mod Meanings
 pub mod Written
 pub mod Demand3
+pub mod Cutting
 pub mod Fairness
 pub mod Examples
 pub mod EasyErrors
@@ -27,5 +29,6 @@ pub mod Rotation
 pub mod StaticAddresses
 pub mod WalkedSlots
 pub mod LowEnergyAlone
+pub mod SerialLine
 pub mod Proof
 pub mod Theorems

@@ -4,6 +4,7 @@ use mathlib.Core.Path.{_≡_, refl}
 use mathlib.Core.Bool.{true}
 use mathlib.Core.List.{List, [], _∷_, _++_}
 use mathlib.Core.Option.{none, some}
+use lib.ListN.{take, drop}
 use Rattle.model.specs.Statuses as Statuses
 use Rattle.model.specs.Codes as Codes
 use Rattle.model.specs.Octets.{open-octets, Octets, le16}
@@ -16,6 +17,7 @@ use Rattle.model.specs.Immediate.{open-immediate}
 use Rattle.model.specs.Commands.{open-commands}
 use Rattle.model.specs.Image.{open-image, image, load}
 use Rattle.model.specs.Hub.{open-hub, Call, Outcome, Result, answerOf, call, clock, octetsOf, report, unplug}
+use Rattle.model.specs.Stream.{open-stream, HostCall, direct, stream, streamOut}
 use Rattle.model.specs.WellFormed.{open-wellformed}
 use Rattle.model.specs.Layout.{open-layout}
 use Rattle.model.specs.Meanings.{open-meanings, hubOnAir, onAirOut}
@@ -89,12 +91,24 @@ airs k = 0 ∷ k ∷ 2 ∷ 2 ∷ 7 ∷ 8 ∷ 9 ∷ 10 ∷ []
 unfoldable pub loadedBack : List Call → Hub
 loadedBack calls = elim (load (image (hubAfter rotating .plain))) [ none ↦ hubAfter rotating | some p ↦ after call (idle p) calls ]
 
--- of a list of calls behind `rotating`, for instance 3: what fairness asks (1 for yes), the seconds passed, and the sum over the other instances
-unfoldable pub fair : List Call → List ℕ
+-- Add Advertising of instance 2 with duration 4, no timeout and no data, as it comes off the serial line
+unfoldable pub addSecond : Octets
+addSecond = le16 Codes.addAdvertising ++ (0 ∷ 0 ∷ 11 ∷ 0 ∷ 2 ∷ 0 ∷ 0 ∷ 0 ∷ 0 ∷ 4 ∷ 0 ∷ 0 ∷ 0 ∷ 0 ∷ 0 ∷ [])
+
+-- it comes in two lumps with a second between them, and then the clock shows n seconds
+unfoldable pub inTwoLumps : ℕ → List HostCall
+inTwoLumps n = stream 1024 (take 9 addSecond) ∷ direct (clock 1024 1) ∷ stream 1024 (drop 9 addSecond) ∷ direct (clock 1024 n) ∷ []
+
+-- of a list of calls and lumps behind `rotating`, for instance 3: what fairness asks (1 for yes), the seconds passed, and the sum over the other instances
+unfoldable pub fair : List HostCall → List ℕ
 fair calls =
     let h : Hub = hubAfter rotating in
-    let ms : List Schedule = moments (λ h. h) call 0 h calls in
-    flag (steady (λ h. h) call 0 3 h calls) 1 ∷ flag (offAir 3 ms) 1 ∷ secondsPassed (λ h. h) call h calls ∷ sumOf (longest ms) (others 3 instances) ∷ []
+    let ms : List Schedule = moments (λ h. h) call streamOut 0 h calls in
+    flag (steady (λ h. h) call streamOut 0 3 h calls) 1
+    ∷ flag (offAir 3 ms) 1
+    ∷ secondsPassed (λ h. h) call streamOut h calls
+    ∷ sumOf (longest ms) (others 3 instances)
+    ∷ []
 
 -- the examples
 unfoldable pub rotations : List Example
@@ -117,8 +131,11 @@ rotations =
     ∷ gives (answered (rotating ++ (add 1 2 1 ∷ [])) (clock 1024 2)) (0 ∷ [])
     ∷ gives (answered (rotating ++ (add 1 2 1 ∷ [])) (clock 1024 3)) (0 ∷ removedEvent 1)
     -- fairness: instance 3 waits for one turn of instance 1, and not a second longer
-    ∷ gives (fair (clock 1024 1 ∷ [])) (1 ∷ 1 ∷ 1 ∷ 2 ∷ [])
-    ∷ gives (fair (clock 1024 2 ∷ [])) (1 ∷ 0 ∷ 2 ∷ 2 ∷ [])
+    ∷ gives (fair (direct (clock 1024 1) ∷ [])) (1 ∷ 1 ∷ 1 ∷ 2 ∷ [])
+    ∷ gives (fair (direct (clock 1024 2) ∷ [])) (1 ∷ 0 ∷ 2 ∷ 2 ∷ [])
+    -- lumps too: instance 2 is added while instance 1 is on air, and instance 3 waits for the turns of both
+    ∷ gives (fair (inTwoLumps 5)) (1 ∷ 1 ∷ 5 ∷ 6 ∷ [])
+    ∷ gives (fair (inTwoLumps 6)) (1 ∷ 0 ∷ 6 ∷ 6 ∷ [])
     -- the driver is answered what to send
     ∷ gives (toldOf (leaves rotating)) (airs 1)
     -- with power off none is on air; when it comes on, the lowest instance begins, though it was added last, and no event tells it
@@ -154,8 +171,8 @@ rotations =
 
 -- E1'S EXAMPLES HOLD
 pub rotations-hold : allGiven rotations ≡ true
-unfolding open-octets open-advertising open-state open-reasons open-tables open-rules open-immediate open-commands open-image open-hub open-wellformed
-    open-layout open-meanings
+unfolding open-octets open-advertising open-state open-reasons open-tables open-rules open-immediate open-commands open-image open-hub open-stream
+    open-wellformed open-layout open-meanings
     open-demand3 open-fairness to dualHardware plugDual powerOn gives allGiven send refusedWith answered leaves airing twoInstances add remove doneWith
-    addedEvent removedEvent rotating poweringOn bothEnding toldOf told hubAfter airs loadedBack fair rotations
+    addedEvent removedEvent rotating poweringOn bothEnding toldOf told hubAfter airs loadedBack addSecond inTwoLumps fair rotations
 rotations-hold = refl

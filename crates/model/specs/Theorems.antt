@@ -20,28 +20,35 @@ use Rattle.model.specs.Image.{hasImage, image, load, open-image, reloade
 use Rattle.model.specs.Hub.{Call, Outcome, Result, answerOf, call, callPlain, clock, command, finished, keep, notInImage, octetsOf, plug, report, save}
 use Rattle.model.specs.Hub.{saveOut, stateOf, unplug, within}
 use Rattle.model.specs.WellFormed.{callWide, open-wellformed, plainOk, wellFormed}
-use Rattle.model.specs.Layout.{decode, encode}
-use Rattle.model.specs.Meanings.{badState, hubLoad, hubLookUp, hubName, hubOnAir, hubSave, laidOut, loadMeaning, loadedInto, toldLookUp, meaning, stateOk}
+use Rattle.model.specs.Layout.{decode, encode, lineCleared}
+use Rattle.model.specs.Meanings.{badState, hubCommand, hubLoad, hubLookUp, hubName, hubOnAir, hubSave, hubStream, laidOut, loadMeaning}
+use Rattle.model.specs.Meanings.{loadedInto, toldLookUp}
+use Rattle.model.specs.Meanings.{meaning, stateOk}
 use Rattle.model.specs.Written.{LookUpAnswer, ReadAnswer, OneReply, Written, loadAnswer, roomOf}
 use Rattle.model.specs.Demand3.{Demand3}
+use Rattle.model.specs.Cutting.{CuttingDoesNotMatter, LeftAside, LineMayBeCut, LumpTold}
 use Rattle.model.specs.Fairness.{Fairness, InTime}
 use Rattle.model.specs.Examples.{dualHardware, fullController, fullHub, fullTable, records}
 use Rattle.model.specs.Proof.Decode.{decode-encode}
-use Rattle.model.specs.Proof.Demand3.{demand3, encode-ok, idle-ok, meaning-is, state-back, state-well, taken}
+use Rattle.model.specs.Proof.Demand3.{encode-ok, idle-ok, meaning-is, state-back, state-well, taken}
+use Rattle.model.specs.Proof.Feeding.{line-cut}
 use Rattle.model.specs.Proof.InTime.{fairness, in-time}
 use Rattle.model.specs.Proof.Keeps.{keeps-state, load-refused-same, load-state, refused-same, state-exact}
+use Rattle.model.specs.Proof.Line.{cutting, demand3}
 use Rattle.model.specs.Proof.Load.{load-has-image, load-ok}
+use Rattle.model.specs.Proof.Long.{long-call}
 use Rattle.model.specs.Proof.LookUp.{first-matches, first-of-none, keyed, keyed-by-master, look-up-answered, looked-back, none-before-first}
 use Rattle.model.specs.Proof.LookUp.{walk-ends, walked-all, walked-found}
 use Rattle.model.specs.Proof.Names.{name-answered, name-most, name-no-zero, name-same, used-ends}
 use Rattle.model.specs.Proof.OnAir.{on-air-answered, on-air-most, on-air-same}
+use Rattle.model.specs.Proof.OneLump.{left-aside, lump-keeps, lump-refused, lump-room, lump-told}
 use Rattle.model.specs.Proof.Room.{notSave, room-state}
 use Rattle.model.specs.Proof.RoundTrip.{image-most, load-image}
 use Rattle.model.specs.Proof.SavedAgain.{saved-again}
 use Rattle.model.specs.Proof.Tests.{and-true, either}
 use Rattle.model.specs.Proof.Written.{load-written, one-reply, silent, state-written, to-eight}
 
--- DEMAND 3, whole: for any image that load takes into any buffer and any list of calls
+-- DEMAND 3, whole: for any image that load takes into any buffer and any list of calls and lumps
 pub demand-3 : Demand3
 demand-3 = demand3
 
@@ -131,8 +138,8 @@ saved s room =
     (λ i _. record { state = e; roomy = r; held = i }) (λ _ z. absurd (omega arith))))
     (λ _ z. absurd (omega arith))
 
--- A saved image loads to the state that `reloadedHub` says: power and discoverable off, no timer, clock 0, nothing open, the records in the lowest slots,
--- no advertising.
+-- A saved image loads to the state that `reloadedHub` says: power and discoverable off, no timer, clock 0, nothing open and nothing waiting, the records in
+-- the lowest slots, no advertising.
 pub saved-image-loads : (s buffer : Octets) (room : ℕ) → hubSave s room .answer ≡ 0 → eqb (length buffer) Lengths.state ≡ true
     → hubLoad buffer (hubSave s room .octets) ≡ record { answer = 0; octets = []; state = encode (idle (reloadedHub (decode s .plain))) }
 unfolding wellFormed
@@ -274,12 +281,12 @@ on-air-is-answered = on-air-answered
 pub no-on-air-longer : (s : Octets) (index room : ℕ) → length (hubOnAir s index room .octets) ≤ 65
 no-on-air-longer = on-air-most
 
--- FAIRNESS: with LE and power on all the time, an instance that is not taken away waits for less than one longest turn of each of the other four.
--- While it was on air at no moment, fewer seconds have passed than that.
+-- FAIRNESS: with LE and power on all the time, an instance that is not taken away waits for less than one longest turn of each of the other four, lumps
+-- among the calls and octets waiting or not (02, E1 and E6). While it was on air at no moment, fewer seconds have passed than that.
 pub comes-on-air : Fairness
 comes-on-air = fairness
 
--- Once that many seconds have passed, it was on air at some moment.
+-- Once that many seconds have passed, in any list of calls and lumps, it was on air at some moment.
 pub on-air-in-time : InTime
 on-air-in-time = in-time
 
@@ -319,3 +326,42 @@ looked-for-by-key = keyed
 -- Of long term keys their Master is not looked at: two may have one address and type.
 pub master-not-looked-at : (r : Octets) → ruleAt longTermKeys .key r ≡ octet r 8 ∷ take (keyLength longTermKeys) r
 master-not-looked-at = keyed-by-master
+
+-- Packets off the serial line (02, E6) ----------------------------------------------------------------------------------------------------------
+
+-- WHERE THE LINE IS CUT makes no difference: its packets are answered, write and change the state as they do one by one, each where its last octet is taken.
+pub cutting-does-not-matter : CuttingDoesNotMatter
+cutting-does-not-matter = cutting
+
+-- The same of a host at a line of whole packets, which lends the next octets as it likes, and again those that were not taken.
+pub line-may-be-cut : LineMayBeCut
+line-may-be-cut = line-cut
+
+-- What a lump is told, whatever is lent: 4 or 5 and nothing taken, 9 and all taken, or what the command call of the finished packet is told.
+pub lump-is-told : (s o : Octets) (room : ℕ) → bytes o ≡ true → LumpTold s o room (hubStream s o room)
+lump-is-told = lump-told
+
+-- What a packet over 1,160 octets comes to depends only on its length, its header and its first four octets of parameters.
+pub long-packet : (s p q : Octets) (room : ℕ) → bytes p ≡ true → bytes q ≡ true → Lengths.longestKept < length p → length p ≡ length q
+    → take Lengths.longHead p ≡ take Lengths.longHead q → hubCommand s p room ≡ hubCommand s q room
+unfolding hubCommand meaning
+long-packet s p q room bp bq l n t =
+    ap {B = Result Octets} (λ (r : Result Hub). elim (stateOk s) [ true ↦ laidOut r | false ↦ badState s ])
+    (long-call (decode s) room p q (record { long = l; size = n; ten = t; octets = (bp, bq) }))
+
+-- Waiting octets lie aside: no call is told anything else because of them, and every call leaves them.
+pub waiting-lies-aside : (s : Octets) (c : Call) → stateOk s ≡ true → callWide c ≡ true → LeftAside s c
+waiting-lies-aside = left-aside
+
+-- Every lump keeps a state well formed.
+pub lumps-keep : (s o : Octets) (room : ℕ) → stateOk s ≡ true → bytes o ≡ true → stateOk (hubStream s o room .result .state) ≡ true
+lumps-keep = lump-keeps
+
+-- A lump that is refused, or finishes no packet, changes nothing but the waiting octets.
+pub refused-lump-changes-nothing : (s o : Octets) (room : ℕ) → bytes o ≡ true → leb 2 (hubStream s o room .result .answer) ≡ true
+    → lineCleared (hubStream s o room .result .state) ≡ lineCleared s
+refused-lump-changes-nothing = lump-refused
+
+-- No lump writes more than 1,024 octets.
+pub no-lump-reply-longer : (s o : Octets) (room : ℕ) → bytes o ≡ true → length (hubStream s o room .result .octets) ≤ Lengths.replyBuffer
+no-lump-reply-longer = lump-room

@@ -16,6 +16,7 @@ use Rattle.model.specs.Immediate.{open-immediate}
 use Rattle.model.specs.Commands.{open-commands}
 use Rattle.model.specs.Image.{open-image}
 use Rattle.model.specs.Hub.{open-hub, Call}
+use Rattle.model.specs.Stream.{open-stream}
 use Rattle.model.specs.WellFormed.{open-wellformed}
 use Rattle.model.specs.Layout.{open-layout}
 use Rattle.model.specs.Meanings.{open-meanings, LookUpReply, hubLookUp, lookUpOut}
@@ -100,6 +101,6 @@ walks =
 -- E4'S EXAMPLES HOLD
 pub walks-hold : allGiven walks ≡ true
 unfolding open-octets open-advertising open-state open-reasons open-tables open-lookup open-rules open-immediate open-commands open-image open-hub
-    open-wellformed open-layout open-meanings open-demand3 to dualHardware plugDual gives allGiven send hubAfter addHint leaves device block unblock blockDown
+    open-stream open-wellformed open-layout open-meanings open-demand3 to dualHardware plugDual gives allGiven send hubAfter addHint leaves device block unblock blockDown
     loadThree numbersOf looked lookedFor walks
 walks-hold = refl

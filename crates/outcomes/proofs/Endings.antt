@@ -50,7 +50,8 @@ ends-refused s i code x d d′ r ok big n w =
 
 -- done: the octets are written, and the state is the new one's
 pub ends-done : (s out : Octets) (p : PlainHub) (n : ℕ) (d d′ s′ : Octets) (r : Answer) → r ≡ Done n → length out ≡ n → n ≤ length d
-    → d′ ≡ writeAt d 0 out → s′ ≡ encode (record { plain = p; openCommands = decode s .openCommands }) → Gives (ended s (finished out p)) r d d′ s′
+    → d′ ≡ writeAt d 0 out → s′ ≡ encode (record { plain = p; openCommands = decode s .openCommands; waiting = decode s .waiting })
+    → Gives (ended s (finished out p)) r d d′ s′
 unfolding ended laidOut keep answerOf octetsOf stateOf
 ends-done s out p n d d′ s′ r m e l w k = rw m (record { answer = refl; count = sym e; reply = w ∙ write-front d out (omega arith); state = k })
 

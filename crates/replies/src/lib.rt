@@ -29,6 +29,7 @@ pub fn number(a: Answer) -> u64
         Answer::BadArgument => 6,
         Answer::BadImage => 7,
         Answer::NotInImage => 8,
+        Answer::Incomplete => 9,
     }
 }
 
@@ -46,6 +47,7 @@ pub fn count(a: Answer) -> usize
         Answer::BadArgument => 0,
         Answer::BadImage => 0,
         Answer::NotInImage => 0,
+        Answer::Incomplete => 0,
     }
 }
 

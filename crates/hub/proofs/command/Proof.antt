@@ -1,12 +1,10 @@
--- A command: the state, the room, the frame, then the function that serves the code.
+-- A command: the state, the room, the frame, then what serves it.
 use mathlib.Core.Path.{refl, sym, _∙_}
 use Prim.Native.Nat.{_-_}
-use native.Mathlib.Omega.{arith}
 use borrow.Author.Needs.{needs}
 use Rattle.model.specs.Proof.Demand3.{state-long}
 use Rattle.hub.proofs.Entries.{gives-bad}
-use Rattle.hub.proofs.Laws.{packet-long, params-all}
-use Rattle.hub.proofs.Bridge.{command-done, command-no-packet, command-no-room}
+use Rattle.hub.proofs.Bridge.{command-no-packet, command-no-room}
 use Rattle.hub.proofs.command.Statement.{statement}
 use Rattle.hub.proofs.command.Tie as tie
 
@@ -16,28 +14,11 @@ well-formed-requires c κs = search needs
 packet-ok-requires : tie.Need-packet-ok-requires
 packet-ok-requires c κs = search needs
 
-u16-at-requires : tie.Need-u16-at-requires
-u16-at-requires c κs = omega (arith, packet-long _ (sym (c .before .packet-ok .ensures) ∙ c .if3 .taken))
-
-u16-at-requires-2 : tie.Need-u16-at-requires-2
-u16-at-requires-2 c κs = omega (arith, packet-long _ (sym (c .before .before .packet-ok .ensures) ∙ c .before .if3 .taken))
-
-sub-dispatch : tie.Need-sub-dispatch
-sub-dispatch c = omega (arith, packet-long _ (sym (c .before .before .before .before .packet-ok .ensures) ∙ c .before .before .before .if3 .taken))
-
-part-dispatch-start : tie.Need-part-dispatch-start
-part-dispatch-start c = omega (arith, packet-long _ (sym (c .before .before .before .before .packet-ok .ensures) ∙ c .before .before .before .if3 .taken))
-
-part-dispatch-end : tie.Need-part-dispatch-end
-part-dispatch-end c = search needs
-
-dispatch-requires : tie.Need-dispatch-requires
-dispatch-requires c κs = (
-  (sym (c .before .before .before .before .before .before .before .before .before .well-formed .ensures)
-      ∙ c .before .before .before .before .before .before .before .before .if1 .taken),
-  state-long _
-      (sym (c .before .before .before .before .before .before .before .before .before .well-formed .ensures)
-      ∙ c .before .before .before .before .before .before .before .before .if1 .taken),
+serve-requires : tie.Need-serve-requires
+serve-requires c κs = (
+  sym (c .before .before .before .before .before .before .well-formed .ensures) ∙ c .before .before .before .before .before .if1 .taken,
+  state-long _ (sym (c .before .before .before .before .before .before .well-formed .ensures) ∙ c .before .before .before .before .before .if1 .taken),
+  sym (c .before .before .before .packet-ok .ensures) ∙ c .before .before .if3 .taken,
   search needs,
 )
 
@@ -48,19 +29,7 @@ same-length-2 : tie.Need-same-length-2
 same-length-2 c = search needs
 
 returns : tie.Need-returns
-returns c =
-    command-done _ _ _ _ _ _ _ _ _
-    (sym (c .before .before .before .before .before .before .before .before .before .before .before .before .before .before .well-formed .ensures)
-    ∙ c .before .before .before .before .before .before .before .before .before .before .before .before .before .if1 .taken)
-    (c .before .before .before .before .before .before .before .before .before .before .before .before .if2 .taken)
-    (sym (c .before .before .before .before .before .before .before .before .before .before .before .packet-ok .ensures)
-    ∙ c .before .before .before .before .before .before .before .before .before .before .if3 .taken)
-    (c .before .before .before .before .before .before .before .before .before .u16-at .ensures .0)
-    (c .before .before .before .before .before .before .before .before .u16-at2 .ensures .0)
-    (rw
-    (params-all
-    (c .before .before .before .before .before .before .before .before .before .before .before .before .before .before .before .before .before .before
-    .before .args .packet .now)) at (c .before .before .before .before .dispatch .ensures))
+returns c = c .before .before .before .before .serve .ensures
 
 same-length-3 : tie.Need-same-length-3
 same-length-3 c = search needs
@@ -88,12 +57,7 @@ command-spec =
     (tie.spec
     well-formed-requires
     packet-ok-requires
-    u16-at-requires
-    u16-at-requires-2
-    sub-dispatch
-    part-dispatch-start
-    part-dispatch-end
-    dispatch-requires
+    serve-requires
     same-length
     same-length-2
     returns

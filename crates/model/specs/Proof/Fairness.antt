@@ -1,20 +1,21 @@
--- Fairness: every call but a clock reading leaves the turn alone or passes it on, so an instance that waits is on air after as many seconds as it waits for.
-use Prim.Native.Nat.{ℕ, zero, suc, _+_, _≤_, _<_, _^_}
+-- Fairness, one call or lump: a clock reading passes as many seconds, every other call and every lump leaves the turn alone or passes it on. So after each an
+-- instance that waits has as much less to wait for as seconds passed.
+use Prim.Native.Nat.{ℕ, zero, suc, _+_, _≤_, _^_}
 use native.Mathlib.Omega.{arith}
 use native.Mathlib.Decide.{ℕ-discrete}
 use mathlib.Core.Path.{_≡_, refl, sym, ap, _∙_}
 use mathlib.Core.Bool.{Bool, true, false, _&&_, _||_, not}
-use mathlib.Core.List.{List, [], _∷_, _++_}
+use mathlib.Core.List.{_++_}
 use mathlib.Core.Option.{Option, none, some}
-use lib.ListN.{length}
+use lib.ListN.{length, take}
 use lib.Dec.{eqb, leb, ltb}
 use borrow.Author.Tests.{eqb-true, eqb-false}
 use Rattle.model.specs.Octets.{Octets, octet}
-use Rattle.model.specs.Advertising.{Schedule, addedInstance, durationOf, instances, noAdvertising, noSchedule, passedOn, present, removedInstance}
+use Rattle.model.specs.Advertising.{Schedule, addedInstance, durationOf, noAdvertising, noSchedule, passedOn, present, removedInstance}
 use Rattle.model.specs.Advertising.{repowered, rescheduled, second, seconds, valueOf, withInstance, without}
 use Rattle.model.specs.State.{Controller, Hardware, Host, Hub, OpenCommand, PlainHub, controllerAt, hardwareOk, plugged, withAdvertising}
 use Rattle.model.specs.State.{withBondable, withBredr, withConnectable}
-use Rattle.model.specs.State.{withController, withHost, withLowEnergy, withName, withPowered, withSchedule, withTable, withTimer}
+use Rattle.model.specs.State.{withController, withHost, withLowEnergy, withName, withPowered, withSchedule, withTable, withTimer, withWaiting}
 use Rattle.model.specs.Reasons.{Reason, firstOf}
 use Rattle.model.specs.Rules.{Immediate, ImmediateRule, RadioRule, Rule, done, general, immediate, on, radio, refuse, setConnectable, setDiscoverable}
 use Rattle.model.specs.Rules.{act, unless}
@@ -25,25 +26,27 @@ use Rattle.model.specs.Immediate.{loadKeys, longTermKeyList}
 use Rattle.model.specs.Immediate.{readInformation, removeAdvertising, removeDevice, removeUuid, setBondable, setLocalName, unblockDevice}
 use Rattle.model.specs.Immediate.{unpairDevice, unpaired}
 use Rattle.model.specs.Commands.{rows, rule}
-use Rattle.model.specs.Hub.{Call, Outcome, Result, Verdict, acted, anyway, badArgument, badPacket, busyOr, byRule, call, callPlain, clock, clockOut}
+use Rattle.model.specs.Hub.{Outcome, Result, Verdict, acted, anyway, badArgument, badPacket, busyOr, byRule, call, callPlain, clock, clockOut}
 use Rattle.model.specs.Hub.{codeOf, notInImage}
 use Rattle.model.specs.Hub.{command, commandOut, finish, finishBy, finished, generalOut, immediateAt, immediateDone, indexOf, keep, noRoom, outcome}
 use Rattle.model.specs.Hub.{packetOk, paramsOf}
 use Rattle.model.specs.Hub.{plug, plugOut, radioAfterBusy, radioAt, radioBeforeBusy, refused, report, reportOut, save, saveOut, stateOf, stepOf, tick}
 use Rattle.model.specs.Hub.{tickSlot, underWay}
 use Rattle.model.specs.Hub.{answerOf, unlessBusy, unplug, unplugOut, unplugged, verdict, withOpen, within}
-use Rattle.model.specs.WellFormed.{callWide, callsWide, scheduleOk, wellFormed}
-use Rattle.model.specs.Fairness.{each, longest, moments, offAir, others, scheduleAt, scheduleIn, secondsIn, secondsPassed, steady, steadyIn}
-use Rattle.model.specs.Fairness.{sumOf}
+use Rattle.model.specs.Stream.{HostCall, Streamed, direct, stream, streamOut}
+use Rattle.model.specs.WellFormed.{hostCallWide, scheduleOk, wellFormed}
+use Rattle.model.specs.Demand3.{hostNext}
+use Rattle.model.specs.Fairness.{each, offAir, scheduleAt, scheduleIn, secondsIn, steadyIn}
 use Rattle.model.specs.Proof.Advertising.{advertising-fit}
 use Rattle.model.specs.Proof.EveryRow.{Each, _&_, end, found}
 use Rattle.model.specs.Proof.Invariant.{put-other, put-same, save-same, slot-tick}
-use Rattle.model.specs.Proof.Keeps.{keeps-hub, well-fit}
+use Rattle.model.specs.Proof.Keeps.{well-fit}
+use Rattle.model.specs.Proof.Lump.{Step, acts, small, waitingIn, waits}
+use Rattle.model.specs.Proof.OneLump.{lump-step, taken-before}
 use Rattle.model.specs.Proof.Parts.{controller-fit}
 use Rattle.model.specs.Proof.Stays.{controller-ok}
-use Rattle.model.specs.Proof.Tests.{and-true, both, either, no-way, not-true}
-use Rattle.model.specs.Proof.Waiting.{AllUnder, Moves, Under, Waits, alone, move-wait, no-more, on as goes-on, one-more, seconds-wait, waiting}
-use Rattle.model.specs.Proof.Waiting.{waits-least, waits-most}
+use Rattle.model.specs.Proof.Tests.{and-true, either, no-way, not-true}
+use Rattle.model.specs.Proof.Waiting.{AllUnder, Moves, Under, Waits, alone, move-wait, on as goes-on, seconds-wait, waiting}
 
 -- a hub means itself
 abbrev pub itself : Hub → Hub
@@ -344,10 +347,24 @@ unplugged-forward i k h j noRoom f = f
 unplugged-forward i k h j badArgument f = f
 unplugged-forward i k h j notInImage f = f
 
--- 3. One call ---------------------------------------------------------------------------------------------------------------------------------
+-- a packet, given to our hub
+packet-forward : (i k : ℕ) (h : Hub) (room : ℕ) (packet : Octets) → Forward i k (h .plain) (call h (command room packet) .state .plain)
+unfolding call
+packet-forward i k h room packet =
+    out-forward i k h _ _ _ (verdict (h .plain) room packet) (underWay h (indexOf packet)) (command-forward i k (h .plain) room packet)
+
+-- a lump: nothing changes but what waits, or it is the packet that it finishes
+lump-forward : (i k : ℕ) (h : Hub) (room : ℕ) (before o : Octets) (r : Streamed Hub) → Step h room before o r
+    → Forward i k (h .plain) (r .result .state .plain)
+unfolding withWaiting waitingIn
+lump-forward i k h room before o r (small t) = still i k (h .plain)
+lump-forward i k h room before o r (waits s) = still i k (h .plain)
+lump-forward i k h room before o r (acts n z m t p) = packet-forward i k h room (before ++ take n o)
+
+-- 3. One call or lump -------------------------------------------------------------------------------------------------------------------------
 
 -- k waits, in a well-formed hub with LE and power on and k there
-waits-in : (k : ℕ) (h : Hub) (i : ℕ) (x : Option Controller) → controllerAt (h .plain) i ≡ x → wellFormed h ≡ true → steadyIn k x ≡ true
+pub waits-in : (k : ℕ) (h : Hub) (i : ℕ) (x : Option Controller) → controllerAt (h .plain) i ≡ x → wellFormed h ≡ true → steadyIn k x ≡ true
     → not (eqb (scheduleIn x .onAir) k) ≡ true → Waits k (scheduleIn x)
 unfolding steadyIn scheduleIn
 waits-in k h i none ex w e n = no-way (sym e)
@@ -384,9 +401,17 @@ unfolding scheduleIn tickSlot tick withHost withSchedule withAdvertising resched
 tick-schedule n none = sym (none-seconds n)
 tick-schedule n (some c) = refl
 
+-- the hub after a call or a lump
+abbrev pub next : Hub → HostCall → Hub
+next h c = hostNext call streamOut h c
+
+-- the seconds that pass in it
+abbrev pub passing : Hub → HostCall → ℕ
+passing h c = secondsIn itself call streamOut h c
+
 -- a clock reading is as many seconds as pass in it, for each index
 clock-schedule : (i : ℕ) (h : Hub) (room reading : ℕ) → scheduleAt (call h (clock room reading) .state) i
-    ≡ seconds (secondsIn itself call h (clock room reading)) (scheduleAt h i)
+    ≡ seconds (passing h (direct (clock room reading))) (scheduleAt h i)
 unfolding scheduleAt secondsIn call keep callPlain within clockOut stateOf answerOf seconds
 clock-schedule i h room reading =
     let n : ℕ = stepOf (h .plain .clock) reading in
@@ -397,114 +422,43 @@ clock-schedule i h room reading =
     Fine o = scheduleIn (controllerAt (stateOf (h .plain) o) i)
         ≡ seconds (elim (eqb (answerOf o) 0) [ true ↦ stepOf (h .plain .clock) reading | false ↦ 0 ]) (scheduleIn (controllerAt (h .plain) i))
 
--- what is asked of a call: k waits at the index before and after it and at each second in it, with LE and power on, and no turn lasts longer than m says
-record Undisturbed (m : ℕ → ℕ) (i k : ℕ) (h : Hub) (c : Call) : Type 0 where
-  before : Waits k (scheduleAt h i)
-  after : Waits k (scheduleAt (call h c .state) i)
-  steadyBefore : steadyIn k (controllerAt (h .plain) i) ≡ true
-  steadyAfter : steadyIn k (controllerAt (call h c .state .plain) i) ≡ true
-  off : offAir k (each (secondsIn itself call h c) (scheduleAt h i)) ≡ true
-  eachUnder : AllUnder m (each (secondsIn itself call h c) (scheduleAt h i))
-  under : Under m (scheduleAt (call h c .state) i)
+-- what is asked of a call or a lump: k waits at the index before and after it and at each second in it, with LE and power on, and no turn lasts longer than
+-- m says
+pub record Undisturbed (m : ℕ → ℕ) (i k : ℕ) (h : Hub) (c : HostCall) : Type 0 where
+  pub before : Waits k (scheduleAt h i)
+  pub after : Waits k (scheduleAt (next h c) i)
+  pub steadyBefore : steadyIn k (controllerAt (h .plain) i) ≡ true
+  pub steadyAfter : steadyIn k (controllerAt (next h c .plain) i) ≡ true
+  pub off : offAir k (each (passing h c) (scheduleAt h i)) ≡ true
+  pub eachUnder : AllUnder m (each (passing h c) (scheduleAt h i))
+  pub under : Under m (scheduleAt (next h c) i)
 
--- a call in which no second passes
-no-second : (m : ℕ → ℕ) (i k : ℕ) (h : Hub) (c : Call) → Undisturbed m i k h c → Forward i k (h .plain) (call h c .state .plain)
-    → waiting m k (scheduleAt (call h c .state) i) + 0 ≤ waiting m k (scheduleAt h i)
+-- a call or a lump in which no second passes
+no-second : (m : ℕ → ℕ) (i k : ℕ) (h : Hub) (c : HostCall) → Undisturbed m i k h c → Forward i k (h .plain) (next h c .plain)
+    → waiting m k (scheduleAt (next h c) i) + 0 ≤ waiting m k (scheduleAt h i)
 unfolding scheduleAt
-no-second m i k h c u f = forward-wait m i k (h .plain) (call h c .state .plain) _ _ refl refl f (u .steadyBefore) (u .steadyAfter) (u .before) (u .after)
+no-second m i k h c u f = forward-wait m i k (h .plain) (next h c .plain) _ _ refl refl f (u .steadyBefore) (u .steadyAfter) (u .before) (u .after)
     (u .under)
 
--- after a call, k waits as much less as seconds passed
-call-wait : (m : ℕ → ℕ) (i k : ℕ) (h : Hub) (c : Call) → Undisturbed m i k h c
-    → waiting m k (scheduleAt (call h c .state) i) + secondsIn itself call h c ≤ waiting m k (scheduleAt h i)
-unfolding secondsIn call keep callPlain stateOf
-call-wait m i k h (clock room reading) u = rw (clock-schedule i h room reading)
-    (seconds-wait m k (secondsIn itself call h (clock room reading)) (scheduleAt h i) (u .before) (u .off) (u .eachUnder) .1)
-call-wait m i k h (command room packet) u =
-    no-second m i k h (command room packet) u
-    (out-forward i k h _ _ _ (verdict (h .plain) room packet) (underWay h (indexOf packet)) (command-forward i k (h .plain) room packet))
-call-wait m i k h (report room j s) u =
-    no-second m i k h (report room j s) u (either {A = Result Hub} (λ r. Forward i k (h .plain) (r .state .plain)) (ltb room 1024)
+-- AFTER A CALL OR A LUMP, k waits as much less as seconds passed
+pub next-wait : (m : ℕ → ℕ) (i k : ℕ) (h : Hub) (c : HostCall) → wellFormed h ≡ true → hostCallWide c ≡ true → Undisturbed m i k h c
+    → waiting m k (scheduleAt (next h c) i) + passing h c ≤ waiting m k (scheduleAt h i)
+unfolding hostNext secondsIn hostCallWide call keep callPlain stateOf
+next-wait m i k h (direct (clock room reading)) w cw u = rw (clock-schedule i h room reading)
+    (seconds-wait m k (passing h (direct (clock room reading))) (scheduleAt h i) (u .before) (u .off) (u .eachUnder) .1)
+next-wait m i k h (direct (command room packet)) w cw u =
+    no-second m i k h (direct (command room packet)) u (packet-forward i k h room packet)
+next-wait m i k h (direct (report room j s)) w cw u =
+    no-second m i k h (direct (report room j s)) u (either {A = Result Hub} (λ r. Forward i k (h .plain) (r .state .plain)) (ltb room 1024)
     (λ _. still i k (h .plain)) (λ _. report-forward i k h j s (underWay h j)))
-call-wait m i k h (plug room j f) u =
-    no-second m i k h (plug room j f) u (within-forward i k (h .plain) 1024 room (plugOut (h .plain) j f (controllerAt (h .plain) j))
+next-wait m i k h (direct (plug room j f)) w cw u =
+    no-second m i k h (direct (plug room j f)) u (within-forward i k (h .plain) 1024 room (plugOut (h .plain) j f (controllerAt (h .plain) j))
     (plug-forward i k (h .plain) j f (controllerAt (h .plain) j) refl))
-call-wait m i k h (unplug room j) u =
-    no-second m i k h (unplug room j) u (unplugged-forward i k h j _
+next-wait m i k h (direct (unplug room j)) w cw u =
+    no-second m i k h (direct (unplug room j)) u (unplugged-forward i k h j _
     (within-forward i k (h .plain) 1024 room (unplugOut (h .plain) j (controllerAt (h .plain) j))
     (unplug-forward i k (h .plain) j (controllerAt (h .plain) j) refl)))
-call-wait m i k h (save room) u = no-second m i k h (save room) u
+next-wait m i k h (direct (save room)) w cw u = no-second m i k h (direct (save room)) u
     (within-forward i k (h .plain) 16014 room (saveOut (h .plain)) (rw (save-same (h .plain)) (still i k (h .plain))))
-
--- 4. The list ---------------------------------------------------------------------------------------------------------------------------------
-
--- moments in two parts, k off air at all
-off-append : (k : ℕ) (xs ys : List Schedule) → offAir k (xs ++ ys) ≡ true → (offAir k xs ≡ true) × (offAir k ys ≡ true)
-unfolding offAir
-off-append k [] ys e = (refl, e)
-off-append k (x ∷ xs) ys e = let a = and-true (not (eqb (x .onAir) k)) _ e in let b = off-append k xs ys (a .1) in (both (a .0) (b .0), b .1)
-
--- moments in two parts, no duration longer in any
-under-append : (m : ℕ → ℕ) (xs ys : List Schedule) → AllUnder m (xs ++ ys) → AllUnder m xs × AllUnder m ys
-under-append m [] ys u = (no-more, u)
-under-append m (x ∷ xs) ys (one-more u us) = let b = under-append m xs ys us in (one-more u (b .0), b .1)
-
--- no duration is longer than the longest
-longest-under : (m : ℕ → ℕ) (ss : List Schedule) → ((j : ℕ) → longest ss j ≤ m j) → AllUnder m ss
-unfolding longest Under
-longest-under m [] h = no-more
-longest-under m (s ∷ ss) h = one-more {s = s} (λ j. omega (arith, h j)) (longest-under m ss (λ j. omega (arith, h j)))
-
--- the first moment is the start
-record Begins (m : ℕ → ℕ) (i k : ℕ) (h : Hub) : Type 0 where
-  steady : steadyIn k (controllerAt (h .plain) i) ≡ true
-  off : not (eqb (scheduleAt h i .onAir) k) ≡ true
-  under : Under m (scheduleAt h i)
-
--- what is asked of all moments is asked of the start
-begins : (m : ℕ → ℕ) (i k : ℕ) (h : Hub) (calls : List Call) → steady itself call i k h calls ≡ true → offAir k (moments itself call i h calls) ≡ true
-    → AllUnder m (moments itself call i h calls) → Begins m i k h
-unfolding steady moments offAir
-begins m i k h [] e o (one-more u us) = record { steady = e; off = and-true _ _ o .0; under = u }
-begins m i k h (c ∷ cs) e o (one-more u us) = record
-    { steady = and-true (steadyIn k (controllerAt (h .plain) i)) _ e .0; off = and-true (not (eqb (scheduleAt h i .onAir) k)) _ o .0; under = u }
-
--- the seconds that pass in a list while k waits are fewer than it waits for at the start
-list-wait : (m : ℕ → ℕ) (i k : ℕ) (calls : List Call) (h : Hub) → wellFormed h ≡ true → callsWide calls ≡ true → steady itself call i k h calls ≡ true
-    → offAir k (moments itself call i h calls) ≡ true
-    → AllUnder m (moments itself call i h calls) → secondsPassed itself call h calls + 1 ≤ waiting m k (scheduleAt h i)
-unfolding secondsPassed callsWide steady moments offAir scheduleAt
-list-wait m i k [] h w cw e o u =
-    let b = begins m i k h [] e o u in
-    omega (arith, waits-least m k (scheduleAt h i) (waits-in k h i _ refl w (b .steady) (b .off)))
-list-wait m i k (c ∷ cs) h w cw e o (one-more us ut) =
-    let r : Hub = call h c .state in
-    let s : Schedule = scheduleAt h i in
-    let a = and-true (callWide c) _ cw in
-    let e1 = and-true (steadyIn k (controllerAt (h .plain) i)) _ e in
-    let o1 = and-true (not (eqb (s .onAir) k)) _ o in
-    let o2 = off-append k (each (secondsIn itself call h c) s) (moments itself call i r cs) (o1 .1) in
-    let u2 = under-append m (each (secondsIn itself call h c) s) (moments itself call i r cs) ut in
-    let wr : wellFormed r ≡ true = keeps-hub h c w (a .0) in
-    let b = begins m i k r cs (e1 .1) (o2 .1) (u2 .1) in
-    let step = call-wait m i k h c (record {
-      before = waits-in k h i _ refl w (e1 .0) (o1 .0);
-      after = waits-in k r i _ refl wr (b .steady) (b .off);
-      steadyBefore = e1 .0;
-      steadyAfter = b .steady;
-      off = o2 .0;
-      eachUnder = u2 .0;
-      under = b .under;
-    }) in
-    omega (arith, step, list-wait m i k cs r wr (a .1) (e1 .1) (o2 .1) (u2 .1))
-
--- FAIRNESS, over the model's hubs
-pub fair : (h : Hub) (i k : ℕ) (calls : List Call) → wellFormed h ≡ true → callsWide calls ≡ true → steady itself call i k h calls ≡ true
-    → offAir k (moments itself call i h calls) ≡ true
-    → secondsPassed itself call h calls < sumOf (longest (moments itself call i h calls)) (others k instances)
-unfolding scheduleAt
-fair h i k calls w cw e o =
-    let m : ℕ → ℕ = longest (moments itself call i h calls) in
-    let u = longest-under m (moments itself call i h calls) (λ j. omega arith) in
-    let b = begins m i k h calls e o u in
-    omega (arith, list-wait m i k calls h w cw e o u, waits-most m k (scheduleAt h i) (waits-in k h i _ refl w (b .steady) (b .off)) (b .under))
+next-wait m i k h (stream room o) w cw u =
+    no-second m i k h (stream room o) u (lump-forward i k h room (taken-before h) o _ (lump-step h w room o cw))

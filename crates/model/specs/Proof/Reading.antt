@@ -27,7 +27,7 @@ pub reading-same : (s : Octets) (room : ℕ) (o : Outcome) → stateOf (decode s
 unfolding reading laidOut keep Meanings.badState within stateOf
 reading-same s room o e =
     either {A = Result Octets} (λ r. r .state ≡ s) (stateOk s)
-    (λ t. ap (λ (p : PlainHub). encode (record { plain = p; openCommands = decode s .openCommands })) same-within ∙ sym (state-back s t))
+    (λ t. ap (λ (p : PlainHub). encode (record { plain = p; openCommands = decode s .openCommands; waiting = decode s .waiting })) same-within ∙ sym (state-back s t))
     (λ _. refl)
   where
     same-within : stateOf (decode s .plain) (within Lengths.replyBuffer room o) ≡ decode s .plain
