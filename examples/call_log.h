@@ -9,7 +9,8 @@
  *     1780000000.000005 - note The clock reads 5    words for the reader
  *     1780000000.000006 A close
  *
- * A command that is started has no line of what it wrote. Key lists are logged as they are sent, keys and all: keep such a log as you keep the image.
+ * A command that is started has no line of what it wrote. A packet that comes off a serial line in lumps has its line where its last octet is taken. Key lists
+ * are logged as they are sent, keys and all: keep such a log as you keep the image.
  */
 #ifndef CALL_LOG_H
 #define CALL_LOG_H
@@ -29,12 +30,22 @@ static inline int log_start(const char *path)
     return call_log != NULL;
 }
 
+/* The time, or that of 1970 where the machine has none. */
+static inline struct timespec log_time(void)
+{
+    struct timespec now = { 0 };
+    if (!timespec_get(&now, TIME_UTC))
+        now.tv_sec = 0;
+    return now;
+}
+
 /* One line: the time, the client or -, a word and what follows it. */
 static inline void log_line(const char *client, const char *word, const char *words, const uint8_t *octets, size_t count)
 {
     struct timespec now;
-    if (!call_log || !timespec_get(&now, TIME_UTC))
+    if (!call_log)
         return;
+    now = log_time();
     fprintf(call_log, "%lld.%06ld %s %s%s%s", (long long)now.tv_sec, now.tv_nsec / 1000, client ? client : "-", word, words || count ? " " : "",
             words ? words : "");
     for (size_t i = 0; i < count; i++)

@@ -1,11 +1,13 @@
 /*
  * A small host that plays a shift: it starts from an image or fresh, plugs two controllers, powers them with a slow radio while two clients
  * interleave, loads keys, shows on a display where the devices stand that come and go, runs a controller on Low Energy alone, names another,
- * advertises in turns while the clock runs, saves by write-then-rename, loads again and shows the name. Every call is printed in words with its octets, and after it what is on air, as
- * the radio asks for it, where that has changed. Behind a refused command stands why the hub refuses it, in the log too.
+ * advertises in turns while the clock runs, saves by write-then-rename, loads again and shows the name. Client A hands over whole packets; client B is the
+ * tablet, whose octets come off a serial line cut anywhere (serial_line.h). Every packet and call is printed in words with its octets, and after it what is
+ * on air, as the radio asks for it, where that has changed. Behind a refused command stands why the hub refuses it, in the log too.
  *
  *     host [IMAGE [LOG]]      IMAGE is read if it is there, and written at the end; LOG gets every packet (call_log.h)
  */
+#define _POSIX_C_SOURCE 200809L
 #include <errno.h>
 #include <stdio.h>
 #include <stdlib.h>
@@ -13,8 +15,10 @@
 
 #include "call_log.h"
 #include "hub.h"
+#include "serial_line.h"
+#include "words.h"
 
-enum { CONTROLLERS = 4, ON_AIR_MAX = 3 + 31 + 31 };
+enum { CONTROLLERS = 4, ON_AIR_MAX = 3 + 31 + 31, PACKET_MAX = 6 + 65535, POSTED_MAX = 8, ALL = LINE_QUEUE };
 
 static uint8_t state[HUB_STATE_LEN];
 static uint8_t reply[HUB_IMAGE_MAX];
@@ -24,39 +28,6 @@ static struct {
     uint8_t octets[ON_AIR_MAX];
     size_t count;
 } sending[CONTROLLERS];
-
-static const char *answer_name(unsigned answer)
-{
-    static const char *const names[] = { "done", "started", "refused", "bad packet", "small buffer", "bad state", "bad argument", "bad image",
-                                         "not in an image" };
-    return answer < sizeof names / sizeof names[0] ? names[answer] : "?";
-}
-
-static void print_octets(const char *what, const uint8_t *octets, size_t count)
-{
-    printf("    %s", what);
-    for (size_t i = 0; i < count && i < 32; i++)
-        printf(" %02X", octets[i]);
-    printf(count > 32 ? " .. (%zu octets)\n" : "\n", count);
-}
-
-/* The name of a reply or an event. */
-static const char *frame_name(unsigned code)
-{
-    static const struct {
-        unsigned code;
-        const char *name;
-    } names[] = {
-        { 0x01, "Command Complete" },  { 0x02, "Command Status" },      { 0x04, "Index Added" },  { 0x05, "Index Removed" },
-        { 0x06, "New Settings" },      { 0x07, "Class Changed" },       { 0x08, "Name Changed" }, { 0x14, "Device Blocked" },
-        { 0x15, "Device Unblocked" },  { 0x16, "Device Unpaired" },     { 0x1A, "Device Added" }, { 0x1B, "Device Removed" },
-        { 0x23, "Advertising Added" }, { 0x24, "Advertising Removed" },
-    };
-    for (size_t i = 0; i < sizeof names / sizeof names[0]; i++)
-        if (names[i].code == code)
-            return names[i].name;
-    return "?";
-}
 
 /* Says what a controller's radio begins to send, or that it stops, and notes it in the log. */
 static void say_on_air(unsigned index)
@@ -86,8 +57,8 @@ static void radio_asks(void)
     }
 }
 
-/* Says what came of a call, packet by packet, and gives its answer back. */
-static unsigned said(const char *what, uint64_t result)
+/* Says what came of a call, packet by packet. */
+static void said(const char *what, uint64_t result)
 {
     char head[64];
     struct hub_frame frame;
@@ -98,16 +69,15 @@ static unsigned said(const char *what, uint64_t result)
         print_octets(head, frame.params, frame.length);
     }
     radio_asks();
-    return hub_answer(result);
 }
 
 /* The same of a call that no client made, with a note and what it wrote in the log. */
-static unsigned told(const char *what, uint64_t result)
+static void told(const char *what, uint64_t result)
 {
     log_line(NULL, "note", what, NULL, 0);
     if (hub_count(result) > 0)
         log_line(NULL, "wrote", NULL, reply, hub_count(result));
-    return said(what, result);
+    said(what, result);
 }
 
 /* Says why a packet was refused, and notes it in the log. A refused command leaves the state alone, so this may be asked after it. */
@@ -121,11 +91,109 @@ static void say_why(const uint8_t *packet, size_t length)
     log_line(NULL, "note", words, NULL, 0);
 }
 
-/* A client sends a command packet: code, index, parameters. */
-static unsigned send(const char *client, const char *does, uint16_t code, uint16_t index, const uint8_t *params, size_t length)
+/* Says what came of a client's packet, in the log too: the packet, what was written, and why if it was refused. */
+static void answered(const char *client, const char *does, const uint8_t *packet, size_t length, uint64_t result)
 {
     char what[128];
-    uint64_t result;
+    print_octets("packet", packet, length);
+    log_line(client, "sent", NULL, packet, length);
+    if (hub_count(result) > 0)
+        log_line(client, "wrote", NULL, reply, hub_count(result));
+    snprintf(what, sizeof what, "Client %s %s", client, does);
+    said(what, result);
+    if (hub_answer(result) == HUB_REFUSED)
+        say_why(packet, length);
+}
+
+/* The tablet's packets that it has posted and that are not finished, by what they do; and what the host has lent of the one that is coming in. */
+static struct {
+    const char *does[POSTED_MAX];
+    size_t posted;
+    uint8_t packet[PACKET_MAX];
+    size_t length, lumps;
+    int broken;
+} tablet;
+
+/* The line is broken, or the hub does not go on with it: nothing more comes off it, and the shift fails. */
+static void line_breaks(const char *why)
+{
+    printf("The serial line: %s\n", why);
+    tablet.broken = 1;
+}
+
+/* The packet that was coming in is finished; so many octets of its last lump are left for the next one. */
+static void finished(uint64_t result, size_t left)
+{
+    printf("    off the line in lumps: %zu, octets left of the last: %zu\n", tablet.lumps, left);
+    answered("B", tablet.posted > 0 ? tablet.does[0] : "sends what it never posted", tablet.packet, tablet.length, result);
+    if (tablet.posted > 0)
+        memmove(tablet.does, tablet.does + 1, --tablet.posted * sizeof tablet.does[0]);
+    tablet.length = tablet.lumps = 0;
+}
+
+/* Lends the hub a lump off the line until all of it is taken. What is taken is kept until its packet is finished: hub_why has to be given the whole of it. */
+static void lend(const uint8_t *octets, size_t count)
+{
+    while (count > 0 && !tablet.broken) {
+        const uint64_t result = hub_stream(state, sizeof state, octets, count, reply, sizeof reply);
+        const size_t taken = hub_taken(result);
+        if (taken == 0) {
+            line_breaks(answer_name(hub_answer(result)));
+            return;
+        }
+        memcpy(tablet.packet + tablet.length, octets, taken);
+        tablet.length += taken;
+        tablet.lumps++;
+        octets += taken;
+        count -= taken;
+        if (hub_answer(result) != HUB_INCOMPLETE)
+            finished(result, count);
+    }
+}
+
+/* Lends the hub all that has come off the line by now. */
+static void serve_line(void)
+{
+    uint8_t lump[LINE_LUMP];
+    ptrdiff_t count;
+    while (!tablet.broken && (count = line_read(lump)) != 0) {
+        if (count < 0)
+            line_breaks(strerror(errno));
+        else
+            lend(lump, (size_t)count);
+    }
+}
+
+/* The tablet writes so many octets of what it has posted, or all if there are less, piece by piece. Now and then the host serves the line meanwhile. */
+static void line_carries(size_t octets)
+{
+    while (octets > 0 && line.queued > 0 && !tablet.broken) {
+        const ptrdiff_t written = line_write(octets);
+        if (written < 0)
+            line_breaks(strerror(errno));
+        else
+            octets -= (size_t)written;
+        if (written == 0 || line_draw(3) == 1)
+            serve_line();
+    }
+    serve_line();
+}
+
+/* The tablet posts a packet. It is answered when the line has carried the last octet of it; on a broken line it is lost. */
+static void tablet_posts(const char *does, const uint8_t *packet, size_t length)
+{
+    if (tablet.broken)
+        return;
+    if (tablet.posted == POSTED_MAX || !line_post(packet, length)) {
+        line_breaks("more is posted than there is room for");
+        return;
+    }
+    tablet.does[tablet.posted++] = does;
+}
+
+/* A client sends a command packet: code, index, parameters. The tablet, B, posts it; another client's is answered at once. */
+static void sends(const char *client, const char *does, uint16_t code, uint16_t index, const uint8_t *params, size_t length)
+{
     uint8_t packet[2048];
     packet[0] = (uint8_t)code;
     packet[1] = (uint8_t)(code >> 8);
@@ -134,43 +202,38 @@ static unsigned send(const char *client, const char *does, uint16_t code, uint16
     packet[4] = (uint8_t)length;
     packet[5] = (uint8_t)(length >> 8);
     memcpy(packet + 6, params, length);
-    print_octets("packet", packet, 6 + length);
-    log_line(client, "sent", NULL, packet, 6 + length);
-    result = hub_command(state, sizeof state, packet, 6 + length, reply, sizeof reply);
-    if (hub_count(result) > 0)
-        log_line(client, "wrote", NULL, reply, hub_count(result));
-    snprintf(what, sizeof what, "Client %s %s", client, does);
-    said(what, result);
-    if (hub_answer(result) == HUB_REFUSED)
-        say_why(packet, 6 + length);
-    return hub_answer(result);
+    if (strcmp(client, "B") == 0)
+        tablet_posts(does, packet, 6 + length);
+    else
+        answered(client, does, packet, 6 + length, hub_command(state, sizeof state, packet, 6 + length, reply, sizeof reply));
 }
 
-static unsigned send_octet(const char *client, const char *does, uint16_t code, uint16_t index, uint8_t value)
+static void sends_octet(const char *client, const char *does, uint16_t code, uint16_t index, uint8_t value)
 {
-    return send(client, does, code, index, &value, 1);
+    sends(client, does, code, index, &value, 1);
 }
 
 /* The radio has done what a started command asked for. */
-static unsigned radio_reports(const char *what, uint64_t index, uint64_t status)
+static void radio_reports(const char *what, uint64_t index, uint64_t status)
 {
-    return told(what, hub_report(state, sizeof state, index, status, reply, sizeof reply));
+    told(what, hub_report(state, sizeof state, index, status, reply, sizeof reply));
 }
 
-static unsigned clock_reads(uint32_t seconds)
+static void clock_reads(uint32_t seconds)
 {
     char what[64];
     snprintf(what, sizeof what, "The clock reads %u", (unsigned)seconds);
-    return told(what, hub_clock(state, sizeof state, seconds, reply, sizeof reply));
+    told(what, hub_clock(state, sizeof state, seconds, reply, sizeof reply));
 }
 
-/* Starts from the image in a file, or fresh where there is none. */
+/* Starts from the image in a file, or fresh where there is none. Nothing waits of a packet off the line then, so nothing is kept of one. */
 static int start(const char *path)
 {
     static const uint8_t empty[] = { 0, 0, 0, 6, 1, 0 };
     static uint8_t image[HUB_IMAGE_MAX + 1];
     FILE *file = path ? fopen(path, "rb") : NULL;
     uint64_t result;
+    tablet.length = tablet.lumps = 0;
     if (file) {
         size_t length = fread(image, 1, sizeof image, file);
         fclose(file);
@@ -212,20 +275,23 @@ static void unplug_all(void)
         (void)hub_unplug(state, sizeof state, index, reply, sizeof reply);
 }
 
-/* Two clients and a slow radio. */
+/* Two clients and a slow radio. The radio's first reports come while a packet of the tablet is on the line: four octets of it wait in the hub. */
 static void interleave(void)
 {
     static const uint8_t timed[3] = { 1, 30, 0 };
-    send_octet("A", "sets controller 0 powered", 0x0005, 0, 1);
-    send_octet("B", "sets controller 0 connectable while the radio works: Busy", 0x0007, 0, 1);
-    send_octet("B", "sets controller 1 powered meanwhile", 0x0005, 1, 1);
-    send_octet("B", "sets controller 0 bondable: never Busy", 0x0009, 0, 1);
+    sends_octet("A", "sets controller 0 powered", 0x0005, 0, 1);
+    sends_octet("B", "sets controller 0 connectable while the radio works: Busy", 0x0007, 0, 1);
+    sends_octet("B", "sets controller 1 powered meanwhile", 0x0005, 1, 1);
+    sends_octet("B", "sets controller 0 bondable: never Busy", 0x0009, 0, 1);
+    line_carries(ALL);
+    sends_octet("B", "sets controller 0 connectable", 0x0007, 0, 1);
+    line_carries(4);
     radio_reports("The radio of controller 1 fails with status 0x03", 1, 0x03);
     radio_reports("The radio of controller 0 is done", 0, 0);
     radio_reports("A report where nothing is under way", 0, 0);
-    send_octet("B", "sets controller 0 connectable", 0x0007, 0, 1);
+    line_carries(ALL);
     radio_reports("The radio of controller 0 is done", 0, 0);
-    send("A", "sets controller 0 discoverable for 30 seconds", 0x0006, 0, timed, sizeof timed);
+    sends("A", "sets controller 0 discoverable for 30 seconds", 0x0006, 0, timed, sizeof timed);
     radio_reports("The radio of controller 0 is done", 0, 0);
 }
 
@@ -248,12 +314,13 @@ static const uint8_t headset[8] = { 0x31, 0x41, 0x59, 0x26, 0x53, 0xD8, 2, 1 };
 /* Devices come and go, and the display follows them. One that is removed leaves a gap: those behind it keep their slots until an image is loaded. */
 static void follow_devices(void)
 {
-    send("A", "adds a device, the spreader", 0x0033, 0, spreader, sizeof spreader);
+    sends("A", "adds a device, the spreader", 0x0033, 0, spreader, sizeof spreader);
     display_asks("the spreader", spreader);
     display_asks("the headset", headset);
-    send("B", "adds another device, the headset", 0x0033, 0, headset, sizeof headset);
+    sends("B", "adds another device, the headset", 0x0033, 0, headset, sizeof headset);
+    line_carries(ALL);
     display_asks("the headset", headset);
-    send("A", "removes the spreader", 0x0034, 0, spreader, 7);
+    sends("A", "removes the spreader", 0x0034, 0, spreader, 7);
     display_asks("the headset", headset);
     display_asks("the spreader", spreader);
 }
@@ -270,13 +337,14 @@ static void load_keys(void)
         key[6] = 2;
         key[9] = 16;
     }
-    send("A", "loads two long term keys", 0x0013, 0, list, sizeof list);
+    sends("A", "loads two long term keys", 0x0013, 0, list, sizeof list);
     list[2 + 36 + 9] = 20;
-    send("B", "loads a list whose second key has 20 octets: refused, the keys stay", 0x0013, 0, list, sizeof list);
+    sends("B", "loads a list whose second key has 20 octets: refused, the keys stay", 0x0013, 0, list, sizeof list);
     memcpy(list + 2 + 36, list + 2, 36);
-    send("B", "loads a list that names one device twice: refused, the keys stay", 0x0013, 0, list, sizeof list);
+    sends("B", "loads a list that names one device twice: refused, the keys stay", 0x0013, 0, list, sizeof list);
+    line_carries(ALL);
     follow_devices();
-    send("A", "adds the UUID of Heart Rate, 0x180D, with hint 0x20", 0x0010, 0, uuid, sizeof uuid);
+    sends("A", "adds the UUID of Heart Rate, 0x180D, with hint 0x20", 0x0010, 0, uuid, sizeof uuid);
 }
 
 /* A static random address for controller 1, which is off. Of its 46 random bits one at least has to be 0 and one 1, so a host that draws them tests them. */
@@ -284,20 +352,21 @@ static void set_static_address(void)
 {
     static const uint8_t bare[6] = { 0, 0, 0, 0, 0, 0xC0 };
     static const uint8_t drawn[6] = { 0x2F, 0x81, 0x5A, 0x03, 0xE7, 0xD4 };
-    send("B", "sets the static address C0:00:00:00:00:00 at controller 1, which no radio takes", 0x002B, 1, bare, sizeof bare);
-    send("B", "sets the static address D4:E7:03:5A:81:2F at controller 1", 0x002B, 1, drawn, sizeof drawn);
+    sends("B", "sets the static address C0:00:00:00:00:00 at controller 1, which no radio takes", 0x002B, 1, bare, sizeof bare);
+    sends("B", "sets the static address D4:E7:03:5A:81:2F at controller 1", 0x002B, 1, drawn, sizeof drawn);
 }
 
 /* Controller 1, a tyre hub with both transports, is to run on Low Energy alone. An image cannot say that, so there is none before it is unplugged. */
 static void low_energy_alone(void)
 {
     static const uint8_t for_good[3] = { 1, 0, 0 };
-    send_octet("A", "turns BR/EDR of controller 0 off, which is powered: refused", 0x002A, 0, 0);
-    send_octet("B", "turns BR/EDR of controller 1 off", 0x002A, 1, 0);
-    send_octet("B", "sets controller 1 connectable", 0x0007, 1, 1);
-    send("B", "sets controller 1 discoverable: refused without BR/EDR", 0x0006, 1, for_good, sizeof for_good);
+    sends_octet("A", "turns BR/EDR of controller 0 off, which is powered: refused", 0x002A, 0, 0);
+    sends_octet("B", "turns BR/EDR of controller 1 off", 0x002A, 1, 0);
+    sends_octet("B", "sets controller 1 connectable", 0x0007, 1, 1);
+    sends("B", "sets controller 1 discoverable: refused without BR/EDR", 0x0006, 1, for_good, sizeof for_good);
     set_static_address();
-    send_octet("A", "turns BR/EDR of controller 1 on beside its static address: refused", 0x002A, 1, 1);
+    line_carries(ALL);
+    sends_octet("A", "turns BR/EDR of controller 1 on beside its static address: refused", 0x002A, 1, 1);
     told("Save while controller 1 is so", hub_save(state, sizeof state, reply, sizeof reply));
 }
 
@@ -307,7 +376,7 @@ static void set_name(const char *client, const char *name, const char *short_nam
     uint8_t names[260] = { 0 };
     snprintf((char *)names, 249, "%s", name);
     snprintf((char *)names + 249, 11, "%s", short_name);
-    send(client, "names controller 0", 0x000F, 0, names, sizeof names);
+    sends(client, "names controller 0", 0x000F, 0, names, sizeof names);
 }
 
 /* An advertising instance as a client gives it; its data have no zero octets here. */
@@ -330,7 +399,7 @@ static void add_advertising(const char *client, const char *does, struct instanc
     params[10] = (uint8_t)scan;
     memcpy(params + 11, in.data, data);
     memcpy(params + 11 + data, in.scan, scan);
-    send(client, does, 0x003E, 0, params, 11 + data + scan);
+    sends(client, does, 0x003E, 0, params, 11 + data + scan);
 }
 
 /* What the plough sends in turns: its name; a service, for 5 seconds on air in all; how much salt is left, which changes. */
@@ -349,6 +418,7 @@ static void advertise(void)
     add_advertising("B", "adds instance 2 for turns of 3 seconds, 5 seconds on air in all", service);
     add_advertising("B", "adds instance 3 for turns of 4 seconds", salt);
     add_advertising("B", "adds instance 6: refused, there are 5", sixth);
+    line_carries(ALL);
     for (size_t i = 0; i < sizeof readings / sizeof readings[0]; i++)
         clock_reads(readings[i]);
 }
@@ -386,13 +456,16 @@ static int shift(const char *path)
     clock_reads(1029);
     clock_reads(1031);
     add_advertising("B", "changes instance 3, which is on air: the turn passes on", less_salt);
-    send_octet("A", "removes instance 1, which is on air", 0x003F, 0, 1);
-    send_octet("A", "sets controller 1 powered", 0x0005, 1, 1);
+    line_carries(ALL);
+    sends_octet("A", "removes instance 1, which is on air", 0x003F, 0, 1);
+    sends_octet("A", "sets controller 1 powered", 0x0005, 1, 1);
     told("Controller 1 is unplugged while its radio works", hub_unplug(state, sizeof state, 1, reply, sizeof reply));
-    send("B", "reads the controllers", 0x0003, 0xFFFF, address, 0);
+    sends("B", "reads the controllers", 0x0003, 0xFFFF, address, 0);
+    line_carries(ALL);
     if (!save(path) || (path && !start(path)))
         return 0;
-    send("B", path ? "reads controller 0: unpowered, its keys kept, its instances gone" : "reads controller 0 once more", 0x0004, 0, address, 0);
+    sends("B", path ? "reads controller 0: unpowered, its keys kept, its instances gone" : "reads controller 0 once more", 0x0004, 0, address, 0);
+    line_carries(ALL);
     display_asks("the headset", headset);
     show_names(0);
     return 1;
@@ -409,8 +482,13 @@ int main(int argc, char **argv)
         printf("%s: %s\n", argv[2], strerror(errno));
         return EXIT_FAILURE;
     }
+    if (!line_open()) {
+        line_breaks(strerror(errno));
+        return EXIT_FAILURE;
+    }
     clients("open");
-    done = shift(path);
+    done = shift(path) && !tablet.broken;
     clients("close");
+    done = line_close() && done;
     return log_end() && done ? EXIT_SUCCESS : EXIT_FAILURE;
 }

@@ -2,8 +2,8 @@
  * The hub: steers up to four Bluetooth controllers, index 0 to 3, by the BlueZ management commands.
  *
  * The caller lends every buffer: the state, the packet or image, the reply or text. Each call returns one number that holds the answer and the count of
- * octets written to the reply, of hub_why a status too, and of hub_look_up a slot and the slots walked; take it apart with hub_answer, hub_count, hub_extra,
- * hub_slot and hub_walked. The reply buffer behind these octets is left alone.
+ * octets written to the reply, of hub_why a status too, of hub_look_up a slot and the slots walked, and of hub_stream the octets taken; take it apart with
+ * hub_answer, hub_count, hub_extra, hub_slot, hub_walked and hub_taken. The reply buffer behind these octets is left alone.
  *
  * What the caller owes:
  *   - each length is the true length of its buffer;
@@ -16,8 +16,8 @@
  *
  * After HUB_BAD_STATE the state buffer is not what a call left: something else wrote it, an older library did, nothing was ever loaded, or its length is
  * not HUB_STATE_LEN, which no call mends. The call has done nothing, and every call but hub_load will answer the same. Load the last image that was saved,
- * or the empty one. What an image does not hold is lost: power, discoverable, timers, the clock, advertising instances, commands under way, and that BR/EDR
- * is off. Reports for those commands are answered 6, so the host tells their clients itself.
+ * or the empty one. What an image does not hold is lost: power, discoverable, timers, the clock, advertising instances, commands under way, that BR/EDR
+ * is off, and what waits of a packet off the serial line. Reports for those commands are answered 6, so the host tells their clients itself.
  *
  * After HUB_STARTED the command waits, without a limit of time, for hub_report or hub_unplug of its index; until then Set Powered, Set Discoverable,
  * Set Connectable, Set Low Energy, Set BR/EDR and Set Static Address to that index are refused Busy. A host whose radio driver gives up has to report a
@@ -43,8 +43,20 @@
  * image cannot say that BR/EDR is off: as long as it is off at any controller that supports it, hub_save answers HUB_NOT_IN_IMAGE and writes nothing. To save
  * nonetheless: power off, static address zero, BR/EDR on, save, BR/EDR off, the static address again; and the last two once more after hub_load.
  *
+ * Octets off a serial line go to hub_stream as they come, in lumps of any length; it finds the packets. What has come of the next packet waits in the
+ * state, and no other call touches it or looks at it: hub_command, the radio, the clock and hub_save go on beside it. No image holds it, and after hub_load
+ * nothing waits. A state has one such line. Packets of a second one the host finds itself, by their lengths, and gives to hub_command.
+ *
+ * Nothing on the line marks where a packet begins: any six octets are a header, and the next packet begins where this one's length says, up to 65,541
+ * octets on. So a line that loses octets or adds some is out of step from there on, which no call sees, and what then looks like a packet is answered, and
+ * done, as one. See to it that the line loses nothing, or check what comes off it before it is lent. No call drops what waits. A host that knows where a
+ * packet begins again (the line was silent, the client has come back) has two ways to get there with nothing waiting: to save and load, which loses what no
+ * image holds, and cannot be done while hub_save answers HUB_NOT_IN_IMAGE; or to lend octets of its own until the packet coming in is finished. That packet is answered, and done, as any other: choose them, as far as
+ * there is a choice, such that it is refused, which hub_why tells beforehand of the octets taken since the last packet with these behind them.
+ *
  * A refusal tells a status and no more. hub_why says in words which check fails first and where in the packet: lend it the same packet and the state as it
- * was before the command, or right after it, since a refused command leaves the state alone. docs/WHY.md has every wording.
+ * was before the command, or right after it, since a refused command leaves the state alone. docs/WHY.md has every wording. To ask after a refusal of
+ * hub_stream, keep the octets of the packet coming in as they are taken.
  *
  * Each controller has six tables of 32 slots. A record keeps its slot until it goes, and a new one takes the lowest free slot. hub_look_up says in which slot
  * of a table a key stands, and how far the look-up had to walk: it is the look-up of every command that looks for a record.
@@ -62,7 +74,7 @@ extern "C" {
 #endif
 
 /* The length of the state buffer; any other length is answered HUB_BAD_STATE. */
-#define HUB_STATE_LEN 17492u
+#define HUB_STATE_LEN 18656u
 /* The shortest reply buffer that every call but hub_save takes; hub_why has a text buffer in its place. */
 #define HUB_REPLY_MIN 1024u
 /* The shortest reply buffer that hub_save takes, and the length of the longest image. */
@@ -73,13 +85,14 @@ extern "C" {
 /* What a call answers. */
 #define HUB_DONE 0u         /* done: the reply and the events behind it are written, the state is the new one */
 #define HUB_STARTED 1u      /* started: the radio owes a report; the command is kept, nothing is written */
-#define HUB_REFUSED 2u      /* refused: one reply, which tells the status; state as it was, here and below */
+#define HUB_REFUSED 2u      /* refused: one reply, which tells the status; state as it was, here and below (hub_stream: but for what waits) */
 #define HUB_BAD_PACKET 3u   /* the packet has no whole header, or another length than its header says */
 #define HUB_SMALL_BUFFER 4u /* the reply buffer is shorter than HUB_REPLY_MIN (hub_save: HUB_IMAGE_MAX; hub_why, its text: HUB_TEXT_MIN) */
 #define HUB_BAD_STATE 5u    /* the lent state is not well formed */
 #define HUB_BAD_ARGUMENT 6u /* a wrong argument, of hub_plug, hub_unplug, hub_report, hub_clock, hub_name, hub_on_air or hub_look_up */
 #define HUB_BAD_IMAGE 7u    /* hub_load does not take the image */
 #define HUB_NOT_IN_IMAGE 8u /* hub_save: a controller that supports BR/EDR has it off, which no image can say */
+#define HUB_INCOMPLETE 9u   /* hub_stream: no packet is finished yet; all octets were taken, and only what waits has changed; nothing is written */
 
 /* The tables of a controller, as hub_look_up numbers them. */
 #define HUB_UUIDS 0u
@@ -105,7 +118,7 @@ static inline size_t hub_count(uint64_t result)
 
 /*
  * A second number: of hub_why the status that hub_command would answer with, 0 if the packet would be taken; of hub_look_up the slot + 256 x the slots
- * walked. Of all other calls it is 0.
+ * walked; of hub_stream the octets taken. Of all other calls it is 0.
  */
 static inline uint32_t hub_extra(uint64_t result)
 {
@@ -122,6 +135,12 @@ static inline unsigned hub_slot(uint64_t result)
 static inline unsigned hub_walked(uint64_t result)
 {
     return (unsigned)(hub_extra(result) >> 8);
+}
+
+/* How many of the lent octets hub_stream took; with answers 4 and 5 none. */
+static inline size_t hub_taken(uint64_t result)
+{
+    return (size_t)hub_extra(result);
 }
 
 /* One packet of a reply: Command Complete (code 1), Command Status (code 2), or an event. */
@@ -162,6 +181,16 @@ static inline int hub_next_frame(const uint8_t *reply, size_t count, size_t *pos
 uint64_t hub_command(uint8_t *state, size_t state_len, const uint8_t *packet, size_t packet_len, uint8_t *reply, size_t reply_len);
 
 /*
+ * Octets off the serial line, as many as there are, also none. Takes them up to the end of the packet that is coming in, and no further: with answers
+ * 0, 1 and 2 that packet is finished, nothing waits, and answer, reply and state are those of hub_command with the whole packet. With answer 9 it is not: all
+ * octets were taken, and nothing is written. hub_taken says how many were taken; lend the rest again, from there on, until all are. With answers 4 and 5 none
+ * was taken. After 4 lend the same again, with a longer reply buffer; any that is too short is answered 4, also where no packet would be finished. After 5 load first:
+ * what waited is lost with the state, so that the next octets lent have to begin a packet. A packet of more than 1,160
+ * octets, which hub_command never takes, is not kept, and is refused at its last octet as hub_command refuses it. Answers 0, 1, 2, 4, 5 or 9, never 3.
+ */
+uint64_t hub_stream(uint8_t *state, size_t state_len, const uint8_t *octets, size_t octets_len, uint8_t *reply, size_t reply_len);
+
+/*
  * The radio reports on the command under way at an index: status 0 lets it act and writes its reply and events, 0x01 to 0x14 ends it and writes
  * a Command Status that tells the status. Answers 0, or 6 if no command is under way there or the status is above 0x14, 4 or 5.
  */
@@ -198,7 +227,7 @@ uint64_t hub_save(const uint8_t *state, size_t state_len, uint8_t *reply, size_t
 
 /*
  * Makes the state that an image describes; the six octets 00 00 00 06 01 00 make a fresh one. What the state buffer held does not matter; it is written
- * only if the whole image is acceptable. Answers 0, 5 for a state buffer of another length, or 7.
+ * only if the whole image is acceptable. Nothing waits of a packet off the serial line then: the next octets lent to hub_stream begin one. Answers 0, 5 for a state buffer of another length, or 7.
  */
 uint64_t hub_load(uint8_t *state, size_t state_len, const uint8_t *image, size_t image_len);
 
@@ -210,8 +239,8 @@ uint64_t hub_name(const uint8_t *state, size_t state_len, uint64_t index, uint64
 
 /*
  * Reads the advertising instance that is on air at an index: writes Instance (1 octet), Adv_Data_Len (1), Scan_Rsp_Len (1), Adv_Data, Scan_Rsp, at most
- * 65 octets, none where no instance is on air. Ask after each call that could change it: hub_command or hub_report with answer 0, hub_clock; after
- * hub_load and hub_unplug none is. Answers 0, or 6 for an absent index, 4 or 5.
+ * 65 octets, none where no instance is on air. Ask after each call that could change it: hub_command, hub_stream or hub_report with answer 0, hub_clock;
+ * after hub_load and hub_unplug none is. Answers 0, or 6 for an absent index, 4 or 5.
  */
 uint64_t hub_on_air(const uint8_t *state, size_t state_len, uint64_t index, uint8_t *reply, size_t reply_len);
 

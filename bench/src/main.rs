@@ -10,6 +10,9 @@
 //! The records of a state differ in the first octet of their identity, in the last, or at random in all. The clock is timed besides on hubs with 20
 //! advertising instances, by steps up to the longest, beside plain Rust over the same lent octets, which walks turn by turn: steps above 60 seconds
 //! have a line with both times and no ratio.
+//!
+//! The packets of a shift are timed as commands and off a serial line, whole and in lumps of 64, 7 and 1 octets; a lump of one octet beside the test of
+//! the state, of which it may take at most twice the time.
 
 #[cfg(before)]
 mod before;
@@ -19,6 +22,7 @@ mod library;
 mod look_up;
 mod plain;
 mod states;
+mod stream;
 mod turns;
 
 use cases::Case;
@@ -244,9 +248,11 @@ fn beside_plain(data: &[Data]) {
     data.iter().for_each(|d| load(d, &mut seen));
     look_up::all(&mut seen);
     turns::all(&mut seen);
+    stream::all(&mut seen);
     data.iter().filter(|d| d.used == 32).for_each(judged_alike);
     judged_alike(&instances());
     switches_judged_alike();
+    stream::waiting_judged_alike();
     let (least, most) = seen.full;
     println!(
         "the test of a full state takes {:.1} memcmp; the slowest kind takes {:.2} times as long as the quickest",

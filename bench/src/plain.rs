@@ -1,8 +1,11 @@
-//! The same test of a state, the same look-up and the same clock, in plain Rust over the same octets. The test is what a careful engineer would write,
-//! the look-up too. The clock walks the turns of a step one after the other, the plain way to count them: it skips no rounds, so its time grows with
-//! the step.
+//! The same test of a state, the same look-up, the same clock and the same stream, in plain Rust over the same octets. The test is what a careful
+//! engineer would write, the look-up and the stream too. The clock walks the turns of a step one after the other, the plain way to count them: it skips
+//! no rounds, so its time grows with the step.
 
-use crate::states::{BLOCK, DATA, DURATIONS, LEFT, ON_AIR, SCAN, SIZES, STATE, TIMEOUTS, WORDS};
+use crate::states::{
+    BLOCK, DATA, DURATIONS, KEPT, KEPT_OF_LONGER, LEFT, ON_AIR, SCAN, SIZES, STATE, TIMEOUTS, WAITING, WORDS,
+};
+use reference::{Hub, Reply};
 
 /// Where the discoverable timer and the static address stand in a block. The six flags before them are power, connectable, discoverable, bondable, BR/EDR
 /// and Low Energy.
@@ -11,7 +14,35 @@ const STATIC: usize = 27;
 
 /// Whether lent octets are a well-formed state.
 pub fn well_formed(s: &[u8]) -> bool {
-    s.len() == STATE && s[4..].chunks_exact(BLOCK).all(block)
+    s.len() == STATE && s[4..WAITING].chunks_exact(BLOCK).all(block) && waiting(&s[WAITING..])
+}
+
+/// The octets that wait are short of one packet, as many of them are kept as their number says, and zeros stand behind.
+fn waiting(w: &[u8]) -> bool {
+    let (taken, kept) = (taken_before(w), &w[4..]);
+    match taken {
+        0..=5 => zero(&kept[taken..]),
+        _ => taken < whole(kept) && zero(&kept[taken.min(kept_of(whole(kept)))..]),
+    }
+}
+
+/// How many octets were taken of the packet that is coming in.
+fn taken_before(w: &[u8]) -> usize {
+    u32::from_le_bytes(w[..4].try_into().unwrap()) as usize
+}
+
+/// The length of the whole packet, as its header says.
+fn whole(kept: &[u8]) -> usize {
+    6 + usize::from(number(kept, 4))
+}
+
+/// How many octets are kept of a packet of such a length.
+fn kept_of(whole: usize) -> usize {
+    if whole <= KEPT {
+        whole
+    } else {
+        KEPT_OF_LONGER
+    }
 }
 
 fn zero(o: &[u8]) -> bool {
@@ -187,6 +218,53 @@ pub fn told(slot: usize, walked: usize) -> u64 {
     ((slot + 256 * walked) as u64) << 32
 }
 
+/// Octets come off the serial line: what a call answers, and how many it took. They wait in the lent octets, and a packet that they finish is given to a
+/// hub that keeps its state in its own structures.
+pub fn stream(s: &mut [u8], hub: &mut Hub, octets: &[u8], room: usize) -> (Reply, usize) {
+    if !well_formed(s) {
+        return (Reply::bare(5), 0);
+    }
+    if room < 1024 {
+        return (Reply::bare(4), 0);
+    }
+    let w = &mut s[WAITING..];
+    let (taken, packet) = take(w, octets);
+    let Some(length) = packet else {
+        return (Reply::bare(9), taken);
+    };
+    let reply = match length {
+        0..=KEPT => hub.command(&w[4..4 + length], room),
+        _ => {
+            let mut packet = w[4..4 + KEPT_OF_LONGER].to_vec();
+            packet.resize(length, 0);
+            hub.command(&packet, room)
+        }
+    };
+    w[..4 + kept_of(length)].fill(0);
+    (reply, taken)
+}
+
+/// Takes octets up to the end of the packet that is coming in: how many, and the length of the packet if they finish it.
+fn take(w: &mut [u8], octets: &[u8]) -> (usize, Option<usize>) {
+    let before = taken_before(w);
+    let (count, kept) = w.split_at_mut(4);
+    let header = octets.len().min(6_usize.saturating_sub(before));
+    kept[before.min(6)..][..header].copy_from_slice(&octets[..header]);
+    let mut taken = header;
+    let mut packet = None;
+    if before + header >= 6 {
+        let whole = whole(kept);
+        taken = octets.len().min(whole - before);
+        let (from, to) = (before + header, kept_of(whole).min(before + taken));
+        if from < to {
+            kept[from..to].copy_from_slice(&octets[header..to - before]);
+        }
+        packet = (before + taken == whole).then_some(whole);
+    }
+    count.copy_from_slice(&((before + taken) as u32).to_le_bytes());
+    (taken, packet)
+}
+
 /// The clock reads so many seconds: the number that a call gives. Timers are counted down, and turns walked one after the other.
 pub fn clock(s: &mut [u8], reading: u32, reply: &mut [u8]) -> u64 {
     if !well_formed(s) {
@@ -201,7 +279,7 @@ pub fn clock(s: &mut [u8], reading: u32, reply: &mut [u8]) -> u64 {
     }
     s[..4].copy_from_slice(&reading.to_le_bytes());
     let mut count = 0;
-    for (i, b) in s[4..].chunks_exact_mut(BLOCK).enumerate().filter(|(_, b)| b[0] == 1) {
+    for (i, b) in s[4..WAITING].chunks_exact_mut(BLOCK).enumerate().filter(|(_, b)| b[0] == 1) {
         count += timer(b, i, step, &mut reply[count..]);
         count += turns(b, i, step, &mut reply[count..]);
     }

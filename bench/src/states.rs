@@ -1,7 +1,12 @@
 //! States laid out by hand (docs/STATE-LAYOUT.md): so many controllers, so many records of a kind in every table of each.
 
-pub const STATE: usize = 17492;
+pub const STATE: usize = 18656;
 pub const BLOCK: usize = 4372;
+/// Where the octets that wait for the rest of their packet begin: how many were taken, four octets, and those that are kept, at most so many.
+pub const WAITING: usize = 4 + 4 * BLOCK;
+pub const KEPT: usize = 1160;
+/// How many are kept of a packet that is longer than that.
+pub const KEPT_OF_LONGER: usize = 10;
 /// Record sizes of the six tables, in their order.
 pub const SIZES: [usize; 6] = [17, 25, 36, 23, 7, 8];
 /// Where the word of each table stands in a block.
@@ -176,7 +181,7 @@ pub fn state(kind: Kind, used: usize) -> Vec<u8> {
 pub fn advertising(times: Times) -> Vec<u8> {
     let mut s = state(Kind::First, 0);
     let first = times.durations.iter().position(|&d| d != 0);
-    for (i, b) in s[4..].chunks_exact_mut(BLOCK).enumerate() {
+    for (i, b) in s[4..WAITING].chunks_exact_mut(BLOCK).enumerate() {
         b[19] = 1;
         for k in (0..5).filter(|&k| times.durations[k] != 0) {
             b[DURATIONS + 2 * k..][..2].copy_from_slice(&times.durations[k].to_le_bytes());

@@ -1,7 +1,7 @@
 /*
- * The library with nothing but itself: no C library, no start files, two functions supplied here. A fresh hub is loaded, tells its version, that it would
- * take that command, that nothing is on air and that a device is in no slot, and refuses an image; the program ends by a system call with the number of
- * octets of the version's reply, 12, or with what went wrong.
+ * The library with nothing but itself: no C library, no start files, two functions supplied here. A fresh hub is loaded, tells its version, as a packet and
+ * in two lumps off the serial line, that it would take that command, that nothing is on air and that a device is in no slot, and refuses an image; the
+ * program ends by a system call with the number of octets of the version's reply, 12, or with what went wrong.
  *
  *     gcc -ffreestanding -nostdlib -static bare.c libhub.a
  */
@@ -51,6 +51,11 @@ static unsigned run(void)
     result = hub_save(state, sizeof state, reply, sizeof reply);
     if (hub_answer(result) != HUB_DONE || hub_answer(hub_load(state, sizeof state, reply, hub_count(result))) != HUB_DONE)
         return 103;
+    if (hub_answer(hub_stream(state, sizeof state, version, 4, reply, HUB_REPLY_MIN)) != HUB_INCOMPLETE)
+        return 108;
+    result = hub_stream(state, sizeof state, version + 4, 2, reply, HUB_REPLY_MIN);
+    if (hub_answer(result) != HUB_DONE || hub_taken(result) != 2 || hub_count(result) != 12)
+        return 109;
     result = hub_command(state, sizeof state, version, sizeof version, reply, HUB_REPLY_MIN);
     return hub_answer(result) == HUB_DONE ? (unsigned)hub_count(result) : 104;
 }

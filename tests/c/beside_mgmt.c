@@ -92,6 +92,15 @@ static uint64_t add_and_look_up(void)
     return hub_look_up(state, sizeof state, 0, HUB_DEVICES, (const uint8_t *)&params.addr, sizeof params.addr);
 }
 
+/* Set Bondable off the serial line, its header and its value as two lumps. */
+static uint64_t stream_mode(uint8_t value)
+{
+    struct mgmt_hdr header = { MGMT_OP_SET_BONDABLE, 0, sizeof(struct mgmt_mode) };
+    if (hub_answer(hub_stream(state, sizeof state, (const uint8_t *)&header, sizeof header, reply, sizeof reply)) != HUB_INCOMPLETE)
+        return HUB_REFUSED;
+    return hub_stream(state, sizeof state, &value, sizeof value, reply, sizeof reply);
+}
+
 /* Whether the reply begins with an event for a command with a status; Command Complete and Command Status begin alike. */
 static int tells(uint16_t event, uint16_t index, uint16_t opcode, uint8_t status)
 {
@@ -134,6 +143,8 @@ int main(void)
     right = right && reply[MGMT_HDR_SIZE + sizeof(struct mgmt_ev_cmd_complete) + 1] == MGMT_EV_ADVERTISING_REMOVED;
     why = add_and_look_up();
     right = right && hub_answer(why) == HUB_DONE && hub_slot(why) == 0 && hub_walked(why) == 1;
+    why = stream_mode(1);
+    right = right && hub_answer(why) == HUB_DONE && hub_taken(why) == 1 && tells(MGMT_EV_CMD_COMPLETE, 0, MGMT_OP_SET_BONDABLE, MGMT_STATUS_SUCCESS);
     printf("beside mgmt.h: %s (%s, %s, %s)\n", right ? "right" : "wrong", mgmt_opstr(MGMT_OP_READ_VERSION), mgmt_evstr(MGMT_EV_CMD_COMPLETE),
            mgmt_errstr(MGMT_STATUS_UNKNOWN_COMMAND));
     return !right;

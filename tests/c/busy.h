@@ -1,6 +1,6 @@
 /*
- * A busy hub for the programs beside: four controllers, tables with entries, advertising instances, commands under way. It is made through the hub's
- * own entries.
+ * A busy hub for the programs beside: four controllers, tables with entries, advertising instances, commands under way, and a packet that is coming in.
+ * It is made through the hub's own entries.
  */
 #ifndef BUSY_H
 #define BUSY_H
@@ -36,7 +36,12 @@ enum {
     AT_ON_AIR = 4049,
     AT_LEFT = 4050,
     AT_DATA = 4020,
-    AT_SCAN = 4180
+    AT_SCAN = 4180,
+    AT_TAKEN = FIRST_BLOCK + 4 * BLOCK, /* behind the blocks: octets taken of the packet that is coming in, and those that are kept */
+    AT_KEPT = AT_TAKEN + 4,
+    WHOLE = 1160, /* the longest packet that is kept whole, and how much is kept of a longer one */
+    HEAD = 10,
+    BUSY_TAKEN = 700
 };
 
 /* A command packet; the longest list has 32 long term keys. */
@@ -273,7 +278,7 @@ static void plug_all(uint8_t *state)
 /*
  * The busy hub: at 0 and 1 full tables, a discoverable timer or a command for one; at 2 holes and the power asked for; at 3 a static address. The clock
  * reads 1000, ten seconds after the instances came: on air are instance 3 at 0, instance 2 at 1 with 90 seconds left of its turn and 30 of its timeout,
- * none at 2, instance 5 at 3.
+ * none at 2, instance 5 at 3. Of a list of 32 long term keys for 3, BUSY_TAKEN octets have come in off the serial line.
  */
 static inline void make_busy(uint8_t *state)
 {
@@ -299,6 +304,8 @@ static inline void make_busy(uint8_t *state)
     packet.length = 12;
     must_send(state, &packet, HUB_DONE);
     must_set(state, 0x0005, 3, 1, 1, 0, HUB_STARTED, 1);
+    long_term_keys(&packet, 3, 32);
+    must("a lump", hub_stream(state, HUB_STATE_LEN, packet.octets, BUSY_TAKEN, reply, sizeof reply), HUB_INCOMPLETE);
 }
 
 #endif

@@ -76,6 +76,25 @@ static void not_in_image(void)
     expect("save, BR/EDR on", hub_answer(hub_save(state, HUB_STATE_LEN, reply, HUB_IMAGE_MAX)), HUB_DONE);
 }
 
+/* Read Version off the serial line: five octets, no room, the sixth with another behind it. */
+static void stream(void)
+{
+    uint64_t result = hub_stream(state, HUB_STATE_LEN, version, 5, reply, HUB_REPLY_MIN);
+    expect("no packet finished", hub_answer(result), HUB_INCOMPLETE);
+    expect("its number", HUB_INCOMPLETE, 9);
+    expect("its octets taken", (unsigned)hub_taken(result), 5);
+    result = hub_stream(state, HUB_STATE_LEN, version + 5, 1, reply, HUB_REPLY_MIN - 1);
+    expect("a lump, reply one octet short", hub_answer(result), HUB_SMALL_BUFFER);
+    expect("its octets taken", (unsigned)hub_taken(result), 0);
+    expect("a command between lumps", hub_answer(hub_command(state, HUB_STATE_LEN, commands, 6, reply, HUB_REPLY_MIN)), HUB_DONE);
+    result = hub_stream(state, HUB_STATE_LEN, commands + 5, 1, reply, HUB_REPLY_MIN);
+    expect("a packet finished", hub_answer(result), HUB_DONE);
+    expect("its octets taken", (unsigned)hub_taken(result), 1);
+    expect("its count", (unsigned)hub_count(result), 12);
+    expect("the octets taken in a number", (unsigned)hub_taken((uint64_t)0x10005 << 32 | 0xC02), 0x10005);
+    expect("no octets", (unsigned)hub_stream(state, HUB_STATE_LEN, NULL, 0, reply, HUB_REPLY_MIN), HUB_INCOMPLETE);
+}
+
 int main(void)
 {
     uint8_t changed[sizeof empty];
@@ -109,6 +128,7 @@ int main(void)
     not_in_image();
     why();
     look_up();
+    stream();
     state[5] = 1;
     expect("a look-up in such a state", hub_answer(hub_look_up(state, HUB_STATE_LEN, 3, HUB_DEVICES, device, 7)), HUB_BAD_STATE);
     expect("a state with an octet that means nothing", hub_answer(hub_clock(state, HUB_STATE_LEN, 0, reply, HUB_REPLY_MIN)), HUB_BAD_STATE);

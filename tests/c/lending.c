@@ -8,7 +8,7 @@
 
 #include "busy.h"
 
-enum { PAGE = 4096, ROOM = 8 * PAGE, BUFFERS = 4, ENTRIES = 11, TEXT = 256 };
+enum { PAGE = 4096, ROOM = 8 * PAGE, BUFFERS = 4, ENTRIES = 12, TEXT = 256 };
 
 static uint8_t *pages[BUFFERS]; /* of each the first and the last page may not be touched */
 static uint8_t base[HUB_STATE_LEN], image[HUB_IMAGE_MAX];
@@ -51,7 +51,7 @@ static uint8_t *place(int buffer, size_t length, int at_end)
     return at_end ? pages[buffer] + ROOM - PAGE - length : pages[buffer] + PAGE;
 }
 
-/* One of eleven calls. The octets are those of a packet, an address, an image or a key. */
+/* One of twelve calls. The octets are those of a packet, an address, an image, a key or a lump. */
 static uint64_t call(int which, uint8_t *state, size_t state_len, const uint8_t *octets, size_t octets_len, uint8_t *reply, size_t reply_len)
 {
     switch (which) {
@@ -64,21 +64,22 @@ static uint64_t call(int which, uint8_t *state, size_t state_len, const uint8_t 
     case 7: return hub_name(state, state_len, 2, 0, reply, reply_len);
     case 8: return hub_on_air(state, state_len, 3, reply, reply_len);
     case 9: return hub_why(state, state_len, octets, octets_len, reply, reply_len);
+    case 11: return hub_stream(state, state_len, octets, octets_len, reply, reply_len);
     case 10: return hub_look_up(state, state_len, 0, octets_len == 16 ? HUB_UUIDS : HUB_DEVICES, octets, octets_len);
     default: return hub_load(state, state_len, octets, octets_len);
     }
 }
 
-/* What a call answers where some of its buffers have no octets: first of all the state, then the reply, then the rest. */
+/* What a call answers where some of its buffers have no octets: first of all the state, then the reply, then the rest. A lump goes to the list that waits. */
 static unsigned wanted(int which, int no_state, int no_octets, int no_reply)
 {
     static const unsigned refusals[ENTRIES] = { HUB_BAD_PACKET, HUB_DONE, HUB_DONE, HUB_DONE, HUB_BAD_ARGUMENT,
-                                                HUB_DONE, HUB_BAD_IMAGE, HUB_DONE, HUB_DONE, HUB_BAD_PACKET, HUB_BAD_ARGUMENT };
+                                                HUB_DONE, HUB_BAD_IMAGE, HUB_DONE, HUB_DONE, HUB_BAD_PACKET, HUB_BAD_ARGUMENT, HUB_INCOMPLETE };
     if (no_state)
         return HUB_BAD_STATE;
     if (no_reply && which != 6 && which != 10)
         return HUB_SMALL_BUFFER;
-    return no_octets ? refusals[which] : HUB_DONE;
+    return no_octets || which == 11 ? refusals[which] : HUB_DONE;
 }
 
 /* Every call with every choice of buffers that have no octets; their pointers are null, or the first octet that may not be touched. */
@@ -89,7 +90,7 @@ static void no_octets(int null)
     uint8_t *none = null ? NULL : place(0, 0, 1);
     for (int which = 0; which < ENTRIES; which++)
         for (int mask = 0; mask < 8; mask++) {
-            const uint8_t *octets = which == 0 || which == 9 ? version : which == 4 || which == 10 ? address : image;
+            const uint8_t *octets = which == 0 || which == 9 || which == 11 ? version : which == 4 || which == 10 ? address : image;
             size_t length = which == 6 ? image_length : which == 10 ? 7 : 6;
             uint64_t result;
             memcpy(state, base, sizeof state);
@@ -122,7 +123,7 @@ static void packet_of(struct packet *packet, unsigned k)
     }
 }
 
-enum { PACKETS = 14, KEYS = 8, OTHERS = 2 * PACKETS + KEYS, CALLS = OTHERS + 8 };
+enum { PACKETS = 14, KEYS = 8, LUMPS = 4, OTHERS = 2 * PACKETS + KEYS + LUMPS, CALLS = OTHERS + 8 };
 
 /* The reply or text buffer that call k of a shift has; load has none. */
 static size_t room_of(unsigned k)
@@ -141,7 +142,20 @@ static uint64_t look(unsigned k, uint8_t *state, uint8_t *octets)
     return call(10, state, HUB_STATE_LEN, octets - length, length, NULL, 0);
 }
 
-/* Call k of a shift, each packet first asked about and then given, then keys; what is lent ends at the places that are given for it. */
+/* Lump k: two parts of the list that waits, its rest with Read Version behind it, and Read Version. */
+static uint64_t lump(unsigned k, uint8_t *state, uint8_t *octets, uint8_t *room)
+{
+    static const size_t from[LUMPS] = { BUSY_TAKEN, 800, 1100, WHOLE }, lengths[LUMPS] = { 100, 300, WHOLE - 1100 + 6, 6 };
+    struct packet list;
+    uint8_t line[WHOLE + 6] = { 0 };
+    long_term_keys(&list, 3, 32);
+    memcpy(line, list.octets, WHOLE);
+    memcpy(line + WHOLE, "\1\0\377\377\0\0", 6);
+    memcpy(octets - lengths[k], line + from[k], lengths[k]);
+    return call(11, state, HUB_STATE_LEN, octets - lengths[k], lengths[k], room, HUB_REPLY_MIN);
+}
+
+/* Call k of a shift, each packet first asked about and then given, then keys and lumps; what is lent ends at the places that are given for it. */
 static uint64_t one(unsigned k, uint8_t *state, uint8_t *octets, uint8_t *reply)
 {
     struct packet packet;
@@ -151,8 +165,10 @@ static uint64_t one(unsigned k, uint8_t *state, uint8_t *octets, uint8_t *reply)
         memcpy(octets - packet.length, packet.octets, packet.length);
         return call(k < PACKETS ? 9 : 0, state, HUB_STATE_LEN, octets - packet.length, packet.length, room, room_of(k));
     }
-    if (k < OTHERS)
+    if (k < 2 * PACKETS + KEYS)
         return look(k - 2 * PACKETS, state, octets);
+    if (k < OTHERS)
+        return lump(k - 2 * PACKETS - KEYS, state, octets, room);
     if (k == CALLS - 1) {
         memcpy(octets - image_length, image, image_length);
         return call(6, state, HUB_STATE_LEN, octets - image_length, image_length, NULL, 0);
@@ -226,6 +242,10 @@ static void at_start(void)
         memcpy(octets, packet.octets, packet.length);
         expect("why at the start", k, hub_answer(call(9, state, HUB_STATE_LEN, octets, packet.length, reply, TEXT)) == HUB_DONE);
         expect("at the start", k, hub_answer(call(0, state, HUB_STATE_LEN, octets, packet.length, reply, HUB_REPLY_MIN)) <= HUB_REFUSED);
+        memcpy(state, base, HUB_STATE_LEN);
+        memset(state + AT_TAKEN, 0, HUB_STATE_LEN - AT_TAKEN);
+        expect("a lump at the start", k, hub_answer(call(11, state, HUB_STATE_LEN, octets, packet.length, reply, HUB_REPLY_MIN)) <= HUB_REFUSED);
+        expect("a part at the start", k, hub_answer(call(11, state, HUB_STATE_LEN, octets, packet.length - 1, reply, HUB_REPLY_MIN)) == HUB_INCOMPLETE);
     }
     memcpy(octets, image, image_length);
     expect("load at the start", 0, hub_answer(call(6, state, HUB_STATE_LEN, octets, image_length, NULL, 0)) == HUB_DONE);

@@ -85,6 +85,7 @@ static inline void try_all_wrong(const char *what, size_t with, const struct len
     uint8_t *s = state->octets, *r = reply->octets;
     const size_t short_text = reply->length < 255 ? reply->length : 255;
     expect(what, with, hub_command(s, state->length, read_version, 5, r, reply->length), answer, state, reply, NULL, 0);
+    expect(what, with, hub_stream(s, state->length, read_version, 5, r, reply->length), answer, state, reply, NULL, 0);
     expect(what, with, hub_report(s, state->length, 9, 99, r, reply->length), answer, state, reply, NULL, 0);
     expect(what, with, hub_clock(s, state->length, 999, r, reply->length), answer, state, reply, NULL, 0);
     expect(what, with, hub_plug(s, state->length, 9, address, 5, 9, 15, 0, r, reply->length), answer, state, reply, NULL, 0);

@@ -1,20 +1,21 @@
 /*
  * Every change of one octet of a busy state, to eight values with one bit flipped, 0 and 0xFF: the changed state is lent to command, report, clock,
- * unplug, save, on air, why and look-up. Each either answers 5 and writes nothing, or gives another answer of its own inside its buffers. All eight
+ * unplug, save, on air, why, look-up and stream. Each either answers 5 and writes nothing, or gives another answer of its own inside its buffers. All nine
  * answer 5, or none does.
  *
  *     one_octet [STRIDE [FIRST]]      only every STRIDE-th octet, from FIRST on; every one if nothing is said
  */
 #include "busy.h"
 
-enum { COMMAND, REPORT, CLOCK, UNPLUG, SAVE, ON_AIR, WHY, LOOK_UP, CALLS };
+enum { COMMAND, REPORT, CLOCK, UNPLUG, SAVE, ON_AIR, WHY, LOOK_UP, STREAM, CALLS };
 enum { COMMANDS = 25, FILLER = 0xA5 };
 
-static const char *const call_names[CALLS] = { "command", "report", "clock", "unplug", "save", "on air", "why", "look-up" };
+static const char *const call_names[CALLS] = { "command", "report", "clock", "unplug", "save", "on air", "why", "look-up", "stream" };
 static uint8_t *base, *changed;       /* the busy state, and that with one octet changed */
 static uint8_t *state, *reply, *room; /* what is lent, each as long as it must be and no longer: state, reply, save's reply */
 static uint8_t *filler;               /* what a reply buffer holds before a call */
 static struct packet packets[4][COMMANDS];
+static uint8_t line[WHOLE];           /* what comes in off the serial line: the rest of the list that is coming in, and of it again from the start */
 static unsigned long changes, not_well_formed, taken, failures;
 
 /* A command of each kind for each controller. */
@@ -57,10 +58,17 @@ static uint64_t look_up(unsigned index)
     return hub_look_up(state, HUB_STATE_LEN, index, table, key, length);
 }
 
+/* How many octets of a lump there are for a change: none, one, the rest of the packet that is coming in, or more. */
+static size_t lump_length(void)
+{
+    static const size_t lengths[4] = { 0, 1, WHOLE - BUSY_TAKEN, WHOLE };
+    return lengths[changes % 4];
+}
+
 /* One call on the lent state, at the controller that the changed octet belongs to; the command and the status change from one to the next. */
 static uint64_t run(int call, size_t at)
 {
-    unsigned index = at < FIRST_BLOCK ? 0 : (unsigned)((at - FIRST_BLOCK) / BLOCK);
+    unsigned index = at < FIRST_BLOCK || at >= AT_TAKEN ? 0 : (unsigned)((at - FIRST_BLOCK) / BLOCK);
     const struct packet *packet = &packets[index][changes % COMMANDS];
     switch (call) {
     case COMMAND:
@@ -77,6 +85,8 @@ static uint64_t run(int call, size_t at)
         return hub_why(state, HUB_STATE_LEN, packet->octets, packet->length, reply, HUB_REPLY_MIN);
     case LOOK_UP:
         return look_up(index);
+    case STREAM:
+        return hub_stream(state, HUB_STATE_LEN, line, lump_length(), reply, HUB_REPLY_MIN);
     default:
         return hub_save(state, HUB_STATE_LEN, room, HUB_IMAGE_MAX);
     }
@@ -91,7 +101,9 @@ static int may_answer(int call, unsigned answer)
         return 1;
     case HUB_STARTED:
     case HUB_REFUSED:
-        return call == COMMAND;
+        return call == COMMAND || call == STREAM;
+    case HUB_INCOMPLETE:
+        return call == STREAM;
     case HUB_NOT_IN_IMAGE:
         return call == SAVE;
     case HUB_BAD_ARGUMENT:
@@ -101,9 +113,14 @@ static int may_answer(int call, unsigned answer)
     }
 }
 
-/* Whether a call may give this second number: a status of why, of a look-up a slot with the slots walked, else 0. */
+/*
+ * Whether a call may give this second number: a status of why, of a look-up a slot with the slots walked, of a lump the octets taken, which are all of them
+ * where no packet is finished and at least one where one is; else 0.
+ */
 static int may_give(int call, uint64_t result)
 {
+    if (call == STREAM && hub_answer(result) != HUB_BAD_STATE)
+        return hub_answer(result) == HUB_INCOMPLETE ? hub_taken(result) == lump_length() : hub_taken(result) > 0 && hub_taken(result) <= lump_length();
     if (hub_answer(result) != HUB_DONE || (call != WHY && call != LOOK_UP))
         return hub_extra(result) == 0;
     if (call == WHY)
@@ -123,7 +140,8 @@ static const char *fault(int call, uint64_t result)
 {
     unsigned answer = hub_answer(result);
     size_t count = hub_count(result), lent = call == SAVE ? HUB_IMAGE_MAX : HUB_REPLY_MIN;
-    int same = memcmp(state, changed, HUB_STATE_LEN) == 0;
+    const int waits = call == STREAM && (answer == HUB_REFUSED || answer == HUB_INCOMPLETE);
+    int same = memcmp(state, changed, waits ? AT_TAKEN : HUB_STATE_LEN) == 0;
     if (!may_answer(call, answer) || !may_give(call, result))
         return "an answer that it does not have";
     if (count > lent || (count != 0 && (call == LOOK_UP || (answer != HUB_DONE && answer != HUB_REFUSED))))
@@ -132,14 +150,16 @@ static const char *fault(int call, uint64_t result)
         return "octets written past the count";
     if (!same && (call == SAVE || call == ON_AIR || call == WHY || call == LOOK_UP || answer > HUB_STARTED))
         return "a state changed by a call that is refused";
-    if (!same && !saved())
+    if (call != STREAM && memcmp(state + AT_TAKEN, changed + AT_TAKEN, HUB_STATE_LEN - AT_TAKEN) != 0)
+        return "what waits changed by a call that is no lump";
+    if ((!same || waits) && !saved())
         return "a state left that the next call does not take";
     if (answer == HUB_DONE && call == SAVE && hub_answer(hub_load(state, HUB_STATE_LEN, room, count)) != HUB_DONE)
         return "an image that cannot be loaded";
     return NULL;
 }
 
-/* Lends the changed state to the eight calls. */
+/* Lends the changed state to the nine calls. */
 static void try_change(size_t at)
 {
     unsigned refusing = 0;
@@ -179,6 +199,7 @@ static void try_octet(size_t at)
 int main(int argc, char **argv)
 {
     size_t stride = argc > 1 ? strtoul(argv[1], NULL, 10) : 1, first = argc > 2 ? strtoul(argv[2], NULL, 10) : 0;
+    struct packet list;
     base = malloc(HUB_STATE_LEN);
     changed = malloc(HUB_STATE_LEN);
     state = malloc(HUB_STATE_LEN);
@@ -191,6 +212,9 @@ int main(int argc, char **argv)
     for (unsigned index = 0; index < 4; index++)
         make_packets(index);
     make_busy(base);
+    long_term_keys(&list, 3, 32);
+    memcpy(line, list.octets + BUSY_TAKEN, WHOLE - BUSY_TAKEN);
+    memcpy(line + WHOLE - BUSY_TAKEN, list.octets, BUSY_TAKEN);
     memcpy(changed, base, HUB_STATE_LEN);
     for (size_t at = first; at < HUB_STATE_LEN; at += stride)
         try_octet(at);

@@ -143,6 +143,34 @@ static unsigned look_ups(void)
     return worst;
 }
 
+/* Lumps: no octets, a part and the rest of the list that waits; then, with nothing waiting, whole packets and the longest one in two parts. */
+static unsigned lumps(void)
+{
+    static uint8_t longest[6 + 0xFFFF];
+    struct packet packet;
+    uint64_t args[10] = { ARG(state), HUB_STATE_LEN, ARG(packet.octets + BUSY_TAKEN), 0, ARG(reply), HUB_REPLY_MIN };
+    unsigned worst;
+    long_term_keys(&packet, 3, 32);
+    worst = takes((entry)hub_stream, args, HUB_INCOMPLETE);
+    args[3] = 100;
+    worst = most(worst, takes((entry)hub_stream, args, HUB_INCOMPLETE));
+    args[3] = WHOLE - BUSY_TAKEN;
+    worst = most(worst, takes((entry)hub_stream, args, HUB_DONE));
+    must("the rest", hub_stream(base, sizeof base, packet.octets + BUSY_TAKEN, WHOLE - BUSY_TAKEN, reply, sizeof reply), HUB_DONE);
+    args[2] = ARG(packet.octets);
+    args[3] = WHOLE;
+    worst = most(worst, takes((entry)hub_stream, args, HUB_DONE));
+    make_packet(&packet, 0x0034, 0, 7);
+    args[3] = packet.length;
+    worst = most(worst, takes((entry)hub_stream, args, HUB_DONE));
+    memset(longest, 0xFF, sizeof longest);
+    args[2] = ARG(longest);
+    args[3] = sizeof longest - 1;
+    worst = most(worst, takes((entry)hub_stream, args, HUB_INCOMPLETE));
+    args[3]++;
+    return most(worst, takes((entry)hub_stream, args, HUB_REFUSED));
+}
+
 /* Everything else. */
 static void others(void)
 {
@@ -178,5 +206,7 @@ int main(void)
     others();
     make_busy(base);
     printf("hub_command %u\n", commands());
+    make_busy(base);
+    printf("hub_stream %u\n", lumps());
     return 0;
 }

@@ -1,7 +1,8 @@
 /*
  * The longest time that a call takes: on a hub with four controllers, all 768 records and all 20 advertising instances, the records of a table alike
- * but for one octet, which is each octet in turn. Clock steps up to the longest are among the calls. A call's time is the least of many tries, spread
- * over the whole run so that a slow moment of the machine is not the call's; an entry's is the most over its calls and over the hubs.
+ * but for one octet, which is each octet in turn. Clock steps up to the longest and lumps with the longest packet are among the calls. A call's time is the
+ * least of many tries, spread over the whole run so that a slow moment of the machine is not the call's; an entry's is the most over its calls and over the
+ * hubs.
  *
  *     worst_time [LIMIT]      prints a line 'NAME MICROSECONDS' for each entry; the exit code is 1 if one took more than LIMIT microseconds
  */
@@ -10,19 +11,24 @@
 
 #include "busy.h"
 
-enum { ROUNDS = 8, TRIES = 25, OCTETS = 16, ENTRIES = 11, WHY = 9, LOOK_UP = 10, COMMANDS = 22, INPUTS = 34 + COMMANDS + 3 + 12 };
+enum { WHY = 9, LOOK_UP = 10, STREAM = 11, ENTRIES = 12 };
+enum { ROUNDS = 8, TRIES = 25, OCTETS = 16, COMMANDS = 22, LUMPS = 4, INPUTS = 34 + COMMANDS + 3 + 12 + LUMPS };
 
-/* A call: an entry by its number, a packet for a command and for the question why, a key with its table for a look-up, a reading for the clock, or an index. */
+/*
+ * A call: an entry by its number, a packet for a command and for the question why, a key with its table for a look-up, a reading for the clock, or an index; a
+ * lump by its number.
+ */
 struct input {
     int entry;
     unsigned index;
     struct packet packet;
 };
 
-static const char *const names[ENTRIES] = { "hub_command", "hub_report", "hub_clock", "hub_plug", "hub_unplug", "hub_save", "hub_load",
-                                            "hub_name", "hub_on_air", "hub_why", "hub_look_up" };
+static const char *const names[ENTRIES] = { "hub_command", "hub_report", "hub_clock",  "hub_plug", "hub_unplug",  "hub_save",
+                                            "hub_load",    "hub_name",   "hub_on_air", "hub_why",  "hub_look_up", "hub_stream" };
 static const uint8_t address[6] = { 1, 2, 3, 4, 5, 6 };
 static uint8_t full[HUB_STATE_LEN], state[HUB_STATE_LEN], image[HUB_IMAGE_MAX], reply[HUB_IMAGE_MAX];
+static uint8_t longest[6 + 0xFFFF]; /* the longest packet: its header, and octets that are not kept */
 static struct input inputs[INPUTS];
 static unsigned made;
 
@@ -181,6 +187,20 @@ static void make_inputs(unsigned octet)
         input(entry, 3);
     make_questions();
     make_look_ups(octet);
+    for (unsigned k = 0; k < LUMPS; k++)
+        input(STREAM, k)->packet = inputs[1].packet;
+}
+
+/* A lump: the last octet of the list of long term keys, all of it but this one, all of it, or the longest packet. */
+static uint64_t lump(const struct input *in)
+{
+    const uint8_t *octets = in->packet.octets;
+    switch (in->index) {
+    case 0: return hub_stream(state, sizeof state, octets + WHOLE - 1, 1, reply, HUB_REPLY_MIN);
+    case 1: return hub_stream(state, sizeof state, octets, WHOLE - 1, reply, HUB_REPLY_MIN);
+    case 2: return hub_stream(state, sizeof state, octets, WHOLE, reply, HUB_REPLY_MIN);
+    default: return hub_stream(state, sizeof state, longest, sizeof longest, reply, HUB_REPLY_MIN);
+    }
 }
 
 static uint64_t call(const struct input *in)
@@ -195,6 +215,7 @@ static uint64_t call(const struct input *in)
     case 6: return hub_load(state, sizeof state, image, sizeof image);
     case 7: return hub_name(state, sizeof state, in->index, 0, reply, HUB_REPLY_MIN);
     case 8: return hub_on_air(state, sizeof state, in->index, reply, HUB_REPLY_MIN);
+    case STREAM: return lump(in);
     case LOOK_UP: return hub_look_up(state, sizeof state, 3, in->index, in->packet.octets, in->packet.length);
     default: return hub_why(state, sizeof state, in->packet.octets, in->packet.length, reply, 256);
     }
@@ -214,6 +235,8 @@ static double least(const struct input *in)
     for (int k = 0; k < TRIES; k++) {
         double start, took;
         memcpy(state, full, sizeof state);
+        if (in && in->entry == STREAM && in->index == 0)
+            must("a lump", hub_stream(state, sizeof state, in->packet.octets, WHOLE - 1, reply, HUB_REPLY_MIN), HUB_INCOMPLETE);
         start = now();
         if (in && hub_answer(call(in)) == HUB_BAD_STATE)
             exit(EXIT_FAILURE);
@@ -242,6 +265,7 @@ int main(int argc, char **argv)
     static double best[OCTETS][INPUTS];
     double limit = argc > 1 ? strtod(argv[1], NULL) : 1e9, worst[ENTRIES] = { 0 };
     int slow = 0;
+    memset(longest, 0xFF, sizeof longest);
     for (unsigned k = 0; k < OCTETS * INPUTS; k++)
         best[k / INPUTS][k % INPUTS] = 1e9;
     for (int k = 0; k < ROUNDS; k++)

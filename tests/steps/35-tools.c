@@ -1,6 +1,7 @@
 /*
  * Writes the files of step 35 to the directory it is run in: fresh.state, a hub with nothing plugged; plough.image, a dual-mode controller at 0 and one with
- * Low Energy alone at 1; idle.state, the same as a state; busy.state, where Set Powered is under way at 0.
+ * Low Energy alone at 1; idle.state, the same as a state; line.state, where a part of Set Powered for 0 has come in off the serial line; busy.state, where it
+ * is under way.
  */
 #include <stdio.h>
 #include <stdlib.h>
@@ -37,7 +38,9 @@ int main(void)
     must(hub_plug(state, sizeof state, 1, address1, 6, 9, 15, 0x0201, reply, sizeof reply), HUB_DONE);
     write_file("plough.image", reply, must(hub_save(state, sizeof state, reply, sizeof reply), HUB_DONE));
     write_file("idle.state", state, sizeof state);
-    must(hub_command(state, sizeof state, power_on, sizeof power_on, reply, sizeof reply), HUB_STARTED);
+    must(hub_stream(state, sizeof state, power_on, 4, reply, sizeof reply), HUB_INCOMPLETE);
+    write_file("line.state", state, sizeof state);
+    must(hub_stream(state, sizeof state, power_on + 4, sizeof power_on - 4, reply, sizeof reply), HUB_STARTED);
     write_file("busy.state", state, sizeof state);
     return EXIT_SUCCESS;
 }

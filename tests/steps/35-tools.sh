@@ -88,6 +88,7 @@ busy="would be refused, status 0x0A: Busy: another settings command is under way
 tries 1 "$busy" "" why busy.state "07 00 00 00 01 00 01"
 tries 1 "$busy" "" why busy.state "$power"
 tries 0 "would be taken\n" "" why busy.state "09 00 00 00 01 00 01"
+tries 0 "would be taken\n" "" why line.state "$power"
 
 # Long term keys: device, LE Public, key type, Master, size 16, EDIV, Rand and Value of zeros.
 key() { octets "$1" 00 00 00 00 C0 01 "$2" 00 "$3" && zeros 26; }

@@ -95,7 +95,7 @@ pub fn expected_refusals() -> Vec<(String, String)> {
         ("unknown code", "UnknownCommand"),
     ];
     out.extend(others.map(|(call, reason)| (call.into(), reason.into())));
-    for call in ["plug", "report", "clock", "unplug", "save", "no packet", "unknown code"] {
+    for call in ["lump", "plug", "report", "clock", "unplug", "save", "no packet", "unknown code"] {
         out.push((call.into(), "Room".into()));
     }
     out

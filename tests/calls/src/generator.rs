@@ -2,11 +2,12 @@
 
 use crate::br_edr;
 use crate::instances;
+use crate::line::Line;
 use crate::parameters;
 use crate::pools;
 use crate::random::Random;
 use crate::spoiling::spoil_parameters;
-use reference::codes::{command as code, CONTROLLERS, NON_CONTROLLER};
+use reference::codes::{command as code, CONTROLLERS, NON_CONTROLLER, REPLY_ROOM};
 use reference::controller::Controller;
 use reference::packet::frame;
 use reference::{Call, Hub};
@@ -123,17 +124,30 @@ pub struct Generator {
     focus: usize,
     /// How many calls the stretch still has.
     left: usize,
+    /// Whether most commands of the stretch come off the serial line.
+    serial: bool,
+    /// The line.
+    line: Line,
 }
+
+/// Of a hundred stretches so many have their commands off the serial line.
+const SERIAL: usize = 35;
 
 impl Generator {
     /// A source for a seed.
     pub fn new(seed: u64) -> Generator {
-        Generator { random: Random::new(seed), mood: Mood::Mixed, focus: 0, left: 0 }
+        let (random, line) = (Random::new(seed), Line::default());
+        Generator { random, mood: Mood::Mixed, focus: 0, left: 0, serial: false, line }
     }
 
     /// The random numbers behind it.
     pub fn random(&mut self) -> &mut Random {
         &mut self.random
+    }
+
+    /// A list begins: nothing is on the serial line.
+    pub fn start(&mut self) {
+        self.line = Line::default();
     }
 
     /// The next call, chosen with the hub in view.
@@ -142,8 +156,34 @@ impl Generator {
             self.mood = self.random.pick(&MOODS);
             self.focus = self.random.below(CONTROLLERS);
             self.left = self.random.between(30, 300);
+            self.serial = self.random.percent(SERIAL);
         }
         self.left -= 1;
+        if self.serial && self.line.goes_on(&mut self.random) {
+            return self.lump(hub);
+        }
+        match self.whole(hub) {
+            Call::Command { packet, .. } if self.serial && self.random.percent(85) => {
+                self.line.put(&mut self.random, &packet);
+                self.lump(hub)
+            }
+            call => call,
+        }
+    }
+
+    /// A lump of what is on the line.
+    fn lump(&mut self, hub: &Hub) -> Call {
+        let octets = self.line.lump(&mut self.random, hub.waiting());
+        let room = self.room();
+        if room >= REPLY_ROOM {
+            let taken = hub.waiting().clone().take(&octets).0;
+            self.line.took(&mut self.random, taken, octets.len());
+        }
+        Call::Stream { octets, room }
+    }
+
+    /// The next call that is no lump.
+    fn whole(&mut self, hub: &Hub) -> Call {
         match self.kind(hub) {
             Next::Report => self.report(hub),
             Next::Clock => self.clock(hub),

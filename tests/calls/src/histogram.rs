@@ -5,6 +5,7 @@ use crate::addresses;
 use crate::br_edr;
 use crate::lists::{Lists, IMAGES};
 use crate::look_ups::{LookUps, LOOK_UPS};
+use crate::lumps;
 use crate::packets::{Packets, PACKETS};
 use crate::situations::situations;
 use crate::walks::{self, Walks};
@@ -61,13 +62,14 @@ fn name(item: impl Debug) -> String {
 }
 
 /// What a call is called in the counts: the code of a known command, else its kind.
-pub fn what(call: &Call) -> String {
+fn what(call: &Call) -> String {
     match call {
         Call::Command { packet, .. } => match Packet::read(packet) {
             Some(packet) if reference::command::is_known(packet.code) => format!("{:#06x}", packet.code),
             Some(_) => "unknown code".into(),
             None => "no packet".into(),
         },
+        Call::Stream { .. } => "lump".into(),
         Call::Report { .. } => "report".into(),
         Call::Clock { .. } => "clock".into(),
         Call::Plug { .. } => "plug".into(),
@@ -118,12 +120,14 @@ fn events(octets: &[u8]) -> String {
 }
 
 impl Note {
-    /// Looks at a call before the hub gets it.
+    /// Looks at a call before the hub gets it. A lump that finishes a packet is the command of that packet.
     pub fn new(hub: &Hub, call: &Call) -> Note {
-        let reasons = reasons(hub, call);
+        let meant = lumps::meant(hub, call);
+        let reasons = reasons(hub, &meant);
         let has_room = reasons.first().is_none_or(|first| first != NO_ROOM);
-        let situations = if has_room { situations(hub, call) } else { Vec::new() };
-        Note { what: what(call), reasons, situations }
+        let mut situations = if has_room { situations(hub, &meant) } else { Vec::new() };
+        lumps::at_call(hub, call, &mut |name, holds| situations.extend(holds.then_some(name)));
+        Note { what: what(&meant), reasons, situations }
     }
 }
 

@@ -196,6 +196,7 @@ impl Lists {
 
     /// Starts a list: the image, and the hub made from it.
     pub fn start(&mut self) -> (Vec<u8>, Hub) {
+        self.generator.start();
         let random = self.generator.random();
         let image = start(random, &self.last);
         self.left = length(random);

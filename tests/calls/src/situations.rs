@@ -214,7 +214,7 @@ fn unpaired(controller: &Controller, peer: &Peer, see: &mut See) {
     see("zero address unpaired", peer.is_zero());
 }
 
-/// All names that a run should come to, those of advertising, of addresses and of BR/EDR aside.
+/// All names that a run should come to, those of advertising, of addresses, of BR/EDR and of lumps aside.
 pub const EXPECTED: [&str; 41] = [
     "failed report beside another open command",
     "unplug during a command",

@@ -35,7 +35,7 @@ fn compare(image: &[u8], hub: &Hub, list: &[Traced]) {
 
 #[test]
 fn reduced_lists_agree() {
-    let (mut calls, mut open, mut moved) = (0, 0, 0);
+    let (mut calls, mut open, mut moved, mut lumps, mut waiting) = (0, 0, 0, 0, 0);
     let mut lists = Lists::new(7);
     for round in 0..600 {
         let (image, hub, list) = trace(&mut lists, round % 3 == 0);
@@ -43,7 +43,10 @@ fn reduced_lists_agree() {
         calls += list.len();
         open += (0..4).filter(|index| hub.open(*index).is_some()).count();
         moved += list.iter().filter(|traced| traced.answer == 1).count();
+        lumps += list.iter().filter(|traced| matches!(traced.call, Call::Stream { .. })).count();
+        waiting += usize::from(hub.waiting().taken > 0);
     }
+    assert!(lumps > 40_000 && waiting > 100, "{lumps} lumps, something waits at {waiting} ends");
     assert!(calls > 200_000 && open > 100 && moved > 2_000, "{calls} calls, {open} open, {moved} started");
 }
 

@@ -38,7 +38,7 @@ fn saved_images_come_back_closed_up() {
                 break;
             }
         }
-        let Reply { answer, octets: saved } = hub.save(IMAGE_ROOM);
+        let Reply { answer, octets: saved, .. } = hub.save(IMAGE_ROOM);
         assert_eq!(answer, if hub.state().is_beyond_images() { NOT_IN_IMAGE } else { 0 });
         if answer == NOT_IN_IMAGE {
             assert!(saved.is_empty());

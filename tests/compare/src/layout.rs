@@ -2,6 +2,7 @@
 
 use crate::lent::Difference;
 use crate::schedule;
+use crate::waiting;
 use reference::codes::CONTROLLERS;
 use reference::command::Command;
 use reference::controller::Controller;
@@ -12,7 +13,9 @@ use reference::Hub;
 use std::ops::Range;
 
 /// The octets of a state.
-pub const STATE: usize = 17_492;
+pub const STATE: usize = 18_656;
+/// Where the octets stand that wait for the rest of their packet, behind the blocks.
+pub const WAITING: Range<usize> = 17_492..STATE;
 /// Where the first controller's block begins, behind the clock.
 const BLOCKS: usize = 4;
 /// The octets of a block.
@@ -34,7 +37,7 @@ pub const IDENTITY_KEYS: Range<usize> = 2_801..3_541;
 /// Where the advertising instances stand in a block, which they end.
 pub const ADVERTISING: usize = 4_029;
 
-/// The state of a hub, its open commands included.
+/// The state of a hub, its open commands and the octets that wait included.
 pub fn encode(hub: &Hub) -> Vec<u8> {
     let mut out = encode_at_once(hub.state());
     for index in 0..CONTROLLERS {
@@ -43,10 +46,11 @@ pub fn encode(hub: &Hub) -> Vec<u8> {
             out[at..at + OPEN_OCTETS].copy_from_slice(&open(command));
         }
     }
+    waiting::write(&mut out[WAITING], hub.waiting());
     out
 }
 
-/// The state of a hub where nothing is under way.
+/// The state of a hub where nothing is under way and nothing waits.
 pub fn encode_at_once(state: &State) -> Vec<u8> {
     let mut out = vec![0; STATE];
     put(&mut out, 0, &state.clock.to_le_bytes());
@@ -65,13 +69,14 @@ pub fn block(index: usize) -> Range<usize> {
     at..at + BLOCK
 }
 
-/// A state with its open commands cleared.
+/// A state with its open commands and the octets that wait cleared.
 pub fn cleared(state: &[u8]) -> Vec<u8> {
     let mut out = state.to_vec();
     for index in 0..CONTROLLERS {
         let at = BLOCKS + BLOCK * index + OPEN;
         out[at..at + OPEN_OCTETS].fill(0);
     }
+    out[WAITING].fill(0);
     out
 }
 
@@ -83,6 +88,7 @@ pub fn same_state(what: &str, expected: &[u8], found: &[u8]) -> Result<(), Diffe
     let place =
         expected.iter().zip(found).position(|(a, b)| a != b).unwrap_or(expected.len().min(found.len()));
     let (block, octet) = match place.checked_sub(BLOCKS) {
+        Some(_) if place >= WAITING.start => ("the waiting part".to_string(), place - WAITING.start),
         Some(behind) => (format!("block {}", behind / BLOCK), behind % BLOCK),
         None => ("the clock".to_string(), place),
     };

@@ -1,5 +1,6 @@
 //! A state buffer lent to a target, and what has to hold of every call on it.
 
+use crate::layout::WAITING;
 use crate::target::Target;
 use reference::codes::answer;
 use reference::{Call, Reply};
@@ -76,7 +77,37 @@ impl<T: Target> Lent<T> {
         let room = call.room();
         self.before_call(room);
         let number = self.target.call(&mut self.state[..length], call, &mut self.reply[..room]);
-        self.after_call(number, room, length)
+        match call {
+            Call::Stream { octets, .. } => self.after_lump(number, room, octets.len(), length),
+            _ => {
+                let reply = self.after_call(number, room, length)?;
+                self.check_waiting(length)?;
+                Ok(reply)
+            }
+        }
+    }
+
+    /// What a lump gave; an error if more octets were taken than it has, or if octets changed that it may not touch: where no command acts
+    /// these are all but those that wait.
+    fn after_lump(&self, number: u64, room: usize, lump: usize, length: usize) -> Result<Reply, Difference> {
+        let taken = (number >> 32) as usize;
+        need(taken <= lump, || format!("{taken} octets taken of {lump}"))?;
+        let reply = self.reply_of(number & 0xFFFF_FFFF, room)?;
+        let waits = matches!(reply.answer, answer::REFUSED | answer::INCOMPLETE) && length == T::STATE_LEN;
+        let same = |from, to| self.state[from..to] == self.before[from..to];
+        match waits {
+            true => need(same(0, WAITING.start) && same(length, self.state.len()), || {
+                format!("answer {} changed more than what waits", reply.answer)
+            })?,
+            false => self.check_state(reply.answer, length)?,
+        }
+        Ok(Reply { taken, ..reply })
+    }
+
+    /// No call but a lump touches what waits.
+    fn check_waiting(&self, length: usize) -> Result<(), Difference> {
+        let same = length != T::STATE_LEN || self.state[WAITING] == self.before[WAITING];
+        need(same, || "a call that is no lump changed what waits".into())
     }
 
     /// Asks for a name, with a state buffer of a length.
@@ -124,12 +155,18 @@ impl<T: Target> Lent<T> {
 
     /// What a call gave; an error if octets changed that it may not touch.
     fn after_call(&self, number: u64, room: usize, length: usize) -> Result<Reply, Difference> {
+        let reply = self.reply_of(number, room)?;
+        self.check_state(reply.answer, length)?;
+        Ok(reply)
+    }
+
+    /// Answer and octets of a number without a second one; an error if octets past the count changed.
+    fn reply_of(&self, number: u64, room: usize) -> Result<Reply, Difference> {
         let (answer, count) = parts(number)?;
         need(count <= room, || format!("count {count} in a room of {room}"))?;
         let untouched = self.reply[count..room + GUARD].iter().all(|octet| *octet == self.fill);
         need(untouched, || format!("octets past the count of {count} changed"))?;
-        self.check_state(answer, length)?;
-        Ok(Reply { answer, octets: self.reply[..count].to_vec() })
+        Ok(Reply::new(answer, self.reply[..count].to_vec()))
     }
 
     /// A load into the buffer, whatever it holds.

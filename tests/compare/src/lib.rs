@@ -25,10 +25,15 @@ pub mod run;
 pub mod schedule;
 pub mod script;
 pub mod shrink;
+pub mod stream;
+#[cfg(test)]
+mod stream_tests;
 pub mod switches;
 pub mod target;
 #[cfg(test)]
 mod tests;
+pub mod waiting;
+pub mod waiting_states;
 pub mod why;
 #[cfg(test)]
 mod why_tests;
@@ -38,6 +43,8 @@ mod wrong_br_edr;
 mod wrong_look_up;
 #[cfg(test)]
 mod wrong_rule;
+#[cfg(test)]
+mod wrong_stream;
 #[cfg(test)]
 mod wrong_why;
 

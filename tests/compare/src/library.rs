@@ -13,6 +13,15 @@ extern "C" {
         reply: *mut u8,
         reply_len: usize,
     ) -> u64;
+    /// A lump of octets off the serial line.
+    fn hub_stream(
+        state: *mut u8,
+        state_len: usize,
+        octets: *const u8,
+        octets_len: usize,
+        reply: *mut u8,
+        reply_len: usize,
+    ) -> u64;
     /// A radio report.
     fn hub_report(
         state: *mut u8,
@@ -78,7 +87,7 @@ extern "C" {
 pub struct Library;
 
 impl Target for Library {
-    const STATE_LEN: usize = 17_492;
+    const STATE_LEN: usize = 18_656;
 
     fn call(&mut self, state: &mut [u8], call: &Call, reply: &mut [u8]) -> u64 {
         let (state, state_len) = (state.as_mut_ptr(), state.len());
@@ -89,6 +98,9 @@ impl Target for Library {
             match call {
                 Call::Command { packet, .. } => {
                     hub_command(state, state_len, packet.as_ptr(), packet.len(), reply, reply_len)
+                }
+                Call::Stream { octets, .. } => {
+                    hub_stream(state, state_len, octets.as_ptr(), octets.len(), reply, reply_len)
                 }
                 Call::Report { index, status, .. } => {
                     hub_report(state, state_len, *index, *status, reply, reply_len)

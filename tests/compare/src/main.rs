@@ -6,7 +6,9 @@ use compare::addresses::addresses_agree;
 use compare::br_edr::br_edr_agrees;
 use compare::run::{Comparison, Failure};
 use compare::shrink::shrink;
+use compare::stream::stream_agrees;
 use library::Library;
+use reference::Call;
 use std::process::ExitCode;
 use std::time::{Instant, SystemTime, UNIX_EPOCH};
 
@@ -21,11 +23,21 @@ fn some_seed() -> u64 {
     since.map_or(1, |time| time.as_secs())
 }
 
+/// A call in words; of one with more octets than any packet that is kept the first ones.
+fn shown(call: &Call) -> String {
+    const MOST: usize = 6_000;
+    let text = format!("{call:02X?}");
+    match text.get(..MOST) {
+        Some(start) => format!("{start} ..."),
+        None => text,
+    }
+}
+
 /// Prints a list that the two differ on, as short as it gets.
 fn show(failure: &Failure) {
     println!("the hubs differ, starting from the image {:02X?}", failure.image);
     for call in &failure.calls {
-        println!("  {call:02X?}");
+        println!("  {}", shown(call));
     }
     if let Some(question) = &failure.look_up {
         println!("  {question:02X?}");
@@ -36,8 +48,15 @@ fn show(failure: &Failure) {
 /// Prints how much was compared, and the time since the start.
 fn figures(comparison: &Comparison<Library>, start: Instant) {
     println!(
-        "{} calls in {} lists, {} calls of reduced lists, {} commands under way at an end",
-        comparison.calls, comparison.runs, comparison.reduced, comparison.left_open,
+        "{} calls in {} lists, {} of them lumps, {} calls of reduced lists",
+        comparison.calls, comparison.runs, comparison.lumps, comparison.reduced,
+    );
+    println!(
+        "{} commands under way at an end, {} lists with something waiting there, {} states with other octets waiting ({} well formed)",
+        comparison.left_open,
+        comparison.left_waiting,
+        comparison.altered_waiting.lent,
+        comparison.altered_waiting.well_formed,
     );
     println!(
         "{} look-ups, {} states with a broken table, {} packets asked about at an end",
@@ -61,6 +80,7 @@ fn main() -> ExitCode {
     let mut comparison = Comparison::new(seed, Library, Library);
     let sweeps = addresses_agree(comparison.lent()).map(|sweep| sweep.to_string());
     let sweeps = sweeps.and_then(|first| Ok(format!("{first}\n{}", br_edr_agrees(comparison.lent())?)));
+    let sweeps = sweeps.and_then(|first| Ok(format!("{first}\n{}", stream_agrees(comparison.lent())?)));
     match sweeps {
         Ok(sweeps) => println!("{sweeps}"),
         Err(difference) => {

@@ -2,11 +2,14 @@
 //!
 //! The buffer holds the octets of the state; they are not read back, but looked
 //! for among those of the last states, which are kept aside. Open commands, what plug told, the
-//! settings, the LE keys and the advertising parts alone may be others, and are read.
+//! settings, the LE keys, the advertising parts and what waits alone may be others, and are read.
 
-use crate::layout::{block, encode, ADVERTISING, IDENTITY_KEYS, LONG_TERM_KEYS, OPEN, STATE, STATIC_ADDRESS};
+use crate::layout::{
+    block, encode, ADVERTISING, IDENTITY_KEYS, LONG_TERM_KEYS, OPEN, STATE, STATIC_ADDRESS, WAITING,
+};
 use crate::switches;
 use crate::target::Target;
+use crate::waiting;
 use reference::codes::answer;
 use reference::reason::ArgumentFault;
 use reference::{Call, Hub, LookUp, Reply};
@@ -25,7 +28,7 @@ pub struct Mirror {
 /// The number that a C host gets for a reply, its octets written.
 pub fn number(reply: &Reply, buffer: &mut [u8]) -> u64 {
     buffer[..reply.octets.len()].copy_from_slice(&reply.octets);
-    u64::from(reply.answer) + 256 * reply.octets.len() as u64
+    u64::from(reply.answer) + 256 * reply.octets.len() as u64 + ((reply.taken as u64) << 32)
 }
 
 /// The number that a C host gets for a look-up.
@@ -54,10 +57,14 @@ impl Mirror {
                     kept[part.clone()].copy_from_slice(&found[part]);
                 }
             }
+            octets[WAITING].copy_from_slice(&state[WAITING]);
             (octets == state).then_some(())
         };
+        if state.len() != STATE {
+            return None;
+        }
         let (_, kept) = self.kept.iter().rev().find(|(octets, hub)| like(octets, hub).is_some())?;
-        let mut hub = kept.clone();
+        let mut hub = kept.with_waiting(waiting::read(&state[WAITING])?);
         for index in kept.state().present() {
             let (controller, open) =
                 switches::read(&state[block(index)], kept.state().controller(index as u64)?)?;
@@ -67,7 +74,7 @@ impl Mirror {
     }
 
     /// Puts the octets of a hub into a buffer.
-    fn write(&mut self, state: &mut [u8], hub: Hub) {
+    pub fn write(&mut self, state: &mut [u8], hub: Hub) {
         let octets = encode(&hub);
         state.copy_from_slice(&octets);
         self.keep(octets, hub);
@@ -92,7 +99,7 @@ impl Target for Mirror {
         };
         self.keep(state.to_vec(), hub.clone());
         let given = hub.call(call);
-        if given.answer <= answer::STARTED {
+        if given.answer <= answer::STARTED || given.taken > 0 {
             self.write(state, hub);
         }
         number(&given, reply)

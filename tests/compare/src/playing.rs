@@ -19,9 +19,11 @@ fn difference(gives: &Reply, came: &Reply) -> Option<String> {
     let place = gives.octets.iter().zip(&came.octets).position(|(a, b)| a != b);
     let place = place.unwrap_or(gives.octets.len().min(came.octets.len()));
     Some(format!(
-        "answer {} for {}, octets differ from place {place} on\n    came:{}\n    asked for:{}",
+        "answer {} for {}, {} taken for {}, octets differ from place {place} on\n    came:{}\n    asked for:{}",
         came.answer,
         gives.answer,
+        came.taken,
+        gives.taken,
         shown(&came.octets),
         shown(&gives.octets)
     ))

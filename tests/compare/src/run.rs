@@ -7,6 +7,7 @@ use crate::lent::{Difference, Lent};
 use crate::look_up::{look_up_of_no_state, question_agrees};
 use crate::questions::questions_agree;
 use crate::target::Target;
+use crate::waiting_states::altered_waiting_agrees;
 use crate::why::{why_agrees, why_agrees_in_any_room, why_of_no_state};
 use calls::lists::{Lists, IMAGES};
 use calls::look_ups::{LookUps, Question, LOOK_UPS};
@@ -51,8 +52,14 @@ pub struct Comparison<T: Target> {
     pub looked_up: usize,
     /// States lent with a broken table.
     pub broken: usize,
-    /// States lent with another advertising part.
+    /// States lent with another advertising part or other switches.
     pub altered: Altered,
+    /// States lent with other octets waiting.
+    pub altered_waiting: Altered,
+    /// Lumps among the calls.
+    pub lumps: usize,
+    /// Lists at whose end something waited.
+    pub left_waiting: usize,
 }
 
 /// A list that the hubs differ on.
@@ -70,7 +77,8 @@ pub struct Failure {
 /// A reply in words, long ones cut.
 fn shown(reply: &Reply) -> String {
     let octets: Vec<String> = reply.octets.iter().take(80).map(|octet| format!("{octet:02X}")).collect();
-    format!("answer {}, {} octets: {}", reply.answer, reply.octets.len(), octets.join(" "))
+    let Reply { answer, taken, .. } = reply;
+    format!("answer {answer}, {taken} octets taken, {} octets: {}", reply.octets.len(), octets.join(" "))
 }
 
 /// An error that tells both replies, unless they are the same.
@@ -133,6 +141,9 @@ impl<T: Target> Comparison<T> {
             looked_up: 0,
             broken: 0,
             altered: Altered::default(),
+            altered_waiting: Altered::default(),
+            lumps: 0,
+            left_waiting: 0,
         }
     }
 
@@ -170,6 +181,7 @@ impl<T: Target> Comparison<T> {
             result = reply.as_ref().map(|_| ()).map_err(|difference| difference.clone());
             list.push(Traced::new(call, reply.unwrap_or(Reply::bare(answer::STATE))));
             self.calls += 1;
+            self.lumps += usize::from(matches!(list.last(), Some(Traced { call: Call::Stream { .. }, .. })));
             result = result.and_then(|()| self.look(&hub, 1, &mut look_up));
             if result.is_ok() && list.len() % SAVES == 0 {
                 result = images_agree(&mut self.lent, &hub.save(IMAGE_ROOM));
@@ -229,7 +241,7 @@ impl<T: Target> Comparison<T> {
     }
 
     /// Compares images, and the reduced list with both at-once hubs: what they give, and their states with that of the list, whose open
-    /// commands are cleared.
+    /// commands and waiting octets are cleared.
     fn finish(&mut self, image: &[u8], hub: &Hub, list: &[Traced]) -> Result<(), Difference> {
         images_agree(&mut self.lent, &hub.save(IMAGE_ROOM))?;
         questions_agree(&mut self.lent, hub)?;
@@ -237,7 +249,7 @@ impl<T: Target> Comparison<T> {
         plain.load(image);
         for expected in reduce(list) {
             self.reduced += 1;
-            let expected_reply = Reply { answer: expected.answer, octets: expected.octets };
+            let expected_reply = Reply::new(expected.answer, expected.octets);
             let what = format!("reduced, at once: {:?}", expected.call);
             same(&what, &expected_reply, &plain.call(&expected.call))?;
             let found = call_at_once(&mut self.at_once, &expected.call)?;
@@ -245,10 +257,13 @@ impl<T: Target> Comparison<T> {
         }
         images_agree(&mut self.lent, &plain.call(&Call::Save { room: IMAGE_ROOM }))?;
         self.left_open += (0..CONTROLLERS as u64).filter(|index| hub.open(*index).is_some()).count();
+        self.left_waiting += usize::from(hub.waiting().taken > 0);
         let expected = encode_at_once(plain.state());
         same_state("the state of the reduced list, reported at once", &expected, self.at_once.state())?;
-        same_state("the state, open commands cleared", &expected, &cleared(self.lent.state()))?;
+        let found = cleared(self.lent.state());
+        same_state("the state, open commands and what waits cleared", &expected, &found)?;
         altered_states_agree(&mut self.lent, hub, &mut self.random, &mut self.altered)?;
+        altered_waiting_agrees(&mut self.lent, hub, &mut self.random, &mut self.altered_waiting)?;
         self.broken += broken_tables_agree(&mut self.lent, hub, &mut self.random)?;
         Ok(())
     }
@@ -292,6 +307,9 @@ fn one_of_each() -> Vec<Call> {
     vec![
         Call::Command { packet: vec![1, 0, 0xFF, 0xFF, 0, 0], room: REPLY_ROOM },
         Call::Command { packet: vec![], room: 0 },
+        Call::Stream { octets: vec![1, 0, 0xFF, 0xFF, 0, 0], room: REPLY_ROOM },
+        Call::Stream { octets: vec![1], room: REPLY_ROOM },
+        Call::Stream { octets: vec![], room: 0 },
         Call::Report { index: 0, status: 0, room: REPLY_ROOM },
         Call::Clock { reading: 1, room: REPLY_ROOM },
         Call::Plug { index: 0, address, version: 1, manufacturer: 1, supported: 0x80, room: REPLY_ROOM },

@@ -69,7 +69,7 @@ pub fn examples(text: &str) -> Vec<Example> {
         let words: Vec<&str> = line.split_whitespace().collect();
         match words[0] {
             "room" => room = Some(value(words[1]) as usize),
-            "gives" | "tells" | "finds" => {
+            "gives" | "takes" | "tells" | "finds" => {
                 let (number, step) =
                     asked.take().unwrap_or_else(|| panic!("line {number}: no call gives this"));
                 let (gives, extra) = result(&words);
@@ -87,17 +87,19 @@ pub fn examples(text: &str) -> Vec<Example> {
 }
 
 /// What a call gives, with its second number: the status and the text that a question tells, the slot that a look-up finds and the slots
-/// that it walks.
+/// that it walks. The octets that a lump takes stand in its reply.
 fn result(words: &[&str]) -> (Reply, u64) {
     match words[0] {
-        "tells" => {
-            (Reply { answer: answer::DONE, octets: words[2..].join(" ").into_bytes() }, value(words[1]))
+        "tells" => (Reply::new(answer::DONE, words[2..].join(" ").into_bytes()), value(words[1])),
+        "takes" => {
+            let reply = Reply::new(value(words[2]) as u8, octets(&words[3..]));
+            (Reply { taken: value(words[1]) as usize, ..reply }, 0)
         }
         "finds" => {
             let slot = if words[1] == "none" { SLOTS as u64 } else { value(words[1]) };
             (Reply::bare(answer::DONE), slot + 256 * value(words[2]))
         }
-        _ => (Reply { answer: value(words[1]) as u8, octets: octets(&words[2..]) }, 0),
+        _ => (Reply::new(value(words[1]) as u8, octets(&words[2..])), 0),
     }
 }
 
@@ -137,6 +139,7 @@ fn step(words: &[&str], room: Option<usize>) -> Step {
         }
         "why" => return Step::Why { packet: octets(&words[1..]), room: room.unwrap_or(TEXT_ROOM) },
         "command" => Call::Command { packet: octets(&words[1..]), room: replies },
+        "lump" => Call::Stream { octets: octets(&words[1..]), room: replies },
         "report" => Call::Report { index: number(1), status: number(2), room: replies },
         "clock" => Call::Clock { reading: number(1) as u32, room: replies },
         "plug" => {

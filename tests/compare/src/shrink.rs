@@ -7,7 +7,8 @@ use crate::run::{image_agrees, images_agree, step, Failure};
 use crate::target::Target;
 use calls::look_ups::Question;
 use reference::codes::IMAGE_ROOM;
-use reference::{Call, Hub};
+use reference::reduction::whole_packets;
+use reference::{Call, Hub, Traced};
 
 /// Runs a list of fixed calls on both, with a look-up behind them if there is one, and gives the first difference.
 pub fn replay<T: Target>(
@@ -32,10 +33,33 @@ pub fn replay<T: Target>(
     images.and_then(|()| questions_agree(lent, &hub)).err()
 }
 
-/// Leaves out calls as long as a difference stays; a list whose difference does
-/// not come again is left as it is.
+/// The same list with packets in place of lumps.
+fn without_lumps(image: &[u8], calls: &[Call]) -> Vec<Call> {
+    let mut hub = Hub::new();
+    hub.load(image);
+    let list: Vec<Traced> = calls.iter().map(|call| Traced::new(call.clone(), hub.call(call))).collect();
+    whole_packets(&list).into_iter().map(|traced| traced.into_owned().call).collect()
+}
+
+/// A list with the lump at a place joined to the one behind it, if both are lumps.
+fn joined(calls: &[Call], at: usize) -> Option<Vec<Call>> {
+    match calls.get(at..at + 2)? {
+        [Call::Stream { octets: first, room }, Call::Stream { octets: second, .. }] => {
+            let lump = Call::Stream { octets: [&first[..], second].concat(), room: *room };
+            Some([&calls[..at], &[lump], &calls[at + 2..]].concat())
+        }
+        _ => None,
+    }
+}
+
+/// Puts packets in place of lumps if a difference stays, and leaves out calls and joins lumps
+/// as long as one does; a list whose difference does not come again is left as it is.
 pub fn shrink<T: Target>(lent: &mut Lent<T>, failure: Failure) -> Failure {
     let Failure { image, mut calls, look_up, mut difference } = failure;
+    let packets = without_lumps(&image, &calls);
+    if let Some(found) = replay(lent, &image, &packets, look_up.as_ref()) {
+        (calls, difference) = (packets, found);
+    }
     let mut chunk = calls.len().div_ceil(2);
     while chunk > 0 && replay(lent, &image, &calls, look_up.as_ref()).is_some() {
         let mut at = 0;
@@ -51,6 +75,14 @@ pub fn shrink<T: Target>(lent: &mut Lent<T>, failure: Failure) -> Failure {
             }
         }
         chunk /= 2;
+    }
+    let mut at = 0;
+    while at < calls.len() {
+        let shorter = joined(&calls, at);
+        match shorter.as_ref().and_then(|calls| replay(lent, &image, calls, look_up.as_ref())) {
+            Some(found) => (calls, difference) = (shorter.unwrap_or_default(), found),
+            None => at += 1,
+        }
     }
     Failure { image, calls, look_up, difference }
 }

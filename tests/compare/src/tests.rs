@@ -3,7 +3,7 @@
 
 use crate::addresses::{addresses_agree, Carrier, Field, Sweep};
 use crate::identities;
-use crate::layout::{block, cleared, encode, encode_at_once, same_state, ADVERTISING, STATE};
+use crate::layout::{block, cleared, encode, encode_at_once, same_state, ADVERTISING, STATE, WAITING};
 use crate::lent::Lent;
 use crate::mirror::Mirror;
 use crate::run::{Comparison, Failure};
@@ -96,7 +96,7 @@ impl Target for Faulty {
         let length =
             if matches!(self.fault, Fault::Length) { Self::STATE_LEN.min(state.len()) } else { state.len() };
         let number = self.inner.call(&mut state[..length], call, reply);
-        let (answer, count) = (number & 0xFF, (number >> 8) as usize);
+        let (answer, count) = (number & 0xFF, (number as u32 >> 8) as usize);
         match self.fault {
             Fault::Octet if is_command(call, code::UNPAIR) && count > 0 => reply[count - 1] ^= 1,
             Fault::PastCount if count > 0 && count < reply.len() => reply[count] ^= 1,
@@ -105,7 +105,7 @@ impl Target for Faulty {
             Fault::State if answer == 2 => state[10] ^= 1,
             Fault::Forgets if is_command(call, code::SET_BONDABLE) => state.copy_from_slice(&before),
             Fault::Kept if answer == 1 => state[4 + BLOCK * usize::from(open_index(&before, state)) + 4] ^= 1,
-            Fault::Place if matches!(call, Call::Plug { .. }) && answer == 0 => state[STATE - 1] ^= 1,
+            Fault::Place if matches!(call, Call::Plug { .. }) && answer == 0 => state[WAITING.start - 1] ^= 1,
             Fault::Turn if matches!(call, Call::Clock { .. }) && state != before => longer_turn(state),
             Fault::StaysOpen if matches!(call, Call::Report { status: 1.., .. }) => {
                 state.copy_from_slice(&before)

@@ -45,7 +45,7 @@ pub fn why_agrees<T: Target>(lent: &mut Lent<T>, hub: &Hub, packet: &[u8]) -> Re
     let came = lent.call(&call);
     lent.put_state(&state);
     let came = came?;
-    let taken = found.0 == Reply { answer: answer::DONE, octets: TAKEN.into() };
+    let taken = found.0 == Reply::new(answer::DONE, TAKEN.into());
     let agrees = match came.answer {
         answer::DONE | answer::STARTED => taken && found.1 == 0,
         answer::REFUSED => !taken && found.0.answer == answer::DONE && found.1 == u64::from(came.octets[8]),

@@ -339,7 +339,7 @@ impl WrongBrEdr {
             _ => return None,
         }
         debug_assert!(room >= IMAGE_ROOM);
-        Some(Reply { answer: answer::DONE, octets: image::save(state) })
+        Some(Reply::new(answer::DONE, image::save(state)))
     }
 
     /// Which reason this hub tells of a packet.
@@ -379,7 +379,7 @@ impl WrongBrEdr {
 
 /// The refusal of a packet with a status.
 fn refusal(packet: &Packet, octet: u8) -> Reply {
-    Reply { answer: answer::REFUSED, octets: command_status(packet.index, packet.code, octet) }
+    Reply::new(answer::REFUSED, command_status(packet.index, packet.code, octet))
 }
 
 impl Target for WrongBrEdr {
@@ -412,7 +412,7 @@ impl Target for WrongBrEdr {
         match self.inner.read(state).and_then(|hub| self.told(&hub, packet)) {
             Some(reason) if buffer.len() >= TEXT_ROOM => {
                 let octets = text(Some(Fault::new(reason))).into_bytes();
-                number(&Reply { answer: answer::DONE, octets }, buffer) + (u64::from(reason.status()) << 32)
+                number(&Reply::new(answer::DONE, octets), buffer) + (u64::from(reason.status()) << 32)
             }
             _ => self.inner.why(state, packet, buffer),
         }

@@ -183,7 +183,7 @@ impl WrongWhy {
             Some(_) if self.slip == Slip::Status => status::FAILED,
             told => told.map_or(status::SUCCESS, |fault| fault.reason.status()),
         };
-        let reply = Reply { answer: answer::DONE, octets: text(told).into_bytes() };
+        let reply = Reply::new(answer::DONE, text(told).into_bytes());
         if self.slip == Slip::Terminated {
             buffer[reply.octets.len()] = 0;
         }

@@ -26,10 +26,11 @@ impl AtOnceHub {
         &self.state
     }
 
-    /// Any call but load. A report finds nothing under way.
+    /// Any call but load and lumps. A report finds nothing under way. What a list reduces to has packets for lumps.
     pub fn call(&mut self, call: &Call) -> Reply {
         match call {
             Call::Command { packet, room } => self.command(packet, *room),
+            Call::Stream { .. } => panic!("the at-once hub is fed no lumps"),
             Call::Report { room, .. } => {
                 room_fault(*room, REPLY_ROOM).unwrap_or(Reply::bare(answer::ARGUMENT))
             }
@@ -57,7 +58,7 @@ impl AtOnceHub {
             return Reply::bare(answer::PACKET);
         };
         match self.state.judge(&packet, [false; CONTROLLERS]) {
-            Verdict::Refused(_, octets) => Reply { answer: answer::REFUSED, octets },
+            Verdict::Refused(_, octets) => Reply::new(answer::REFUSED, octets),
             Verdict::Answered(octets) => done(octets),
             Verdict::Accepted { index, command, .. } => done(self.state.act(index, &command)),
         }

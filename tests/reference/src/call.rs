@@ -1,18 +1,25 @@
 //! Calls with their arguments, what they answer, and lists of both.
 
-/// What a call answers: the number and the octets written.
+/// What a call answers: the number, the octets written, and how many octets of a lump were taken.
 #[derive(Clone, PartialEq, Eq, Hash, Debug)]
 pub struct Reply {
-    /// 0 to 8, by the table of answers.
+    /// 0 to 9, by the table of answers.
     pub answer: u8,
     /// The octets at the start of the reply buffer.
     pub octets: Vec<u8>,
+    /// The octets taken off the serial line; 0 for every call that is no lump.
+    pub taken: usize,
 }
 
 impl Reply {
+    /// An answer with the octets that it writes.
+    pub fn new(answer: u8, octets: Vec<u8>) -> Reply {
+        Reply { answer, octets, taken: 0 }
+    }
+
     /// An answer that writes nothing.
     pub fn bare(answer: u8) -> Reply {
-        Reply { answer, octets: Vec::new() }
+        Reply::new(answer, Vec::new())
     }
 }
 
@@ -23,6 +30,13 @@ pub enum Call {
     Command {
         /// The packet's octets, of any number.
         packet: Vec<u8>,
+        /// Length of the reply buffer.
+        room: usize,
+    },
+    /// A lump of octets off the serial line.
+    Stream {
+        /// The octets, of any number.
+        octets: Vec<u8>,
         /// Length of the reply buffer.
         room: usize,
     },
@@ -76,6 +90,7 @@ impl Call {
     pub fn room(&self) -> usize {
         match self {
             Call::Command { room, .. }
+            | Call::Stream { room, .. }
             | Call::Report { room, .. }
             | Call::Clock { room, .. }
             | Call::Plug { room, .. }
@@ -94,11 +109,13 @@ pub struct Traced {
     pub answer: u8,
     /// The octets it wrote.
     pub octets: Vec<u8>,
+    /// The octets it took off the serial line.
+    pub taken: usize,
 }
 
 impl Traced {
     /// A call and its reply as one.
     pub fn new(call: Call, reply: Reply) -> Traced {
-        Traced { call, answer: reply.answer, octets: reply.octets }
+        Traced { call, answer: reply.answer, octets: reply.octets, taken: reply.taken }
     }
 }

@@ -176,6 +176,8 @@ pub mod answer {
     pub const IMAGE: u8 = 7;
     /// The image has no place for what would be saved.
     pub const NOT_IN_IMAGE: u8 = 8;
+    /// No packet is finished.
+    pub const INCOMPLETE: u8 = 9;
 }
 
 /// Bits of the settings words.

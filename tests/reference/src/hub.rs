@@ -9,6 +9,7 @@ use crate::look_up::{look_up, LookUp};
 use crate::packet::{command_status, Packet};
 use crate::reason::{ArgumentFault, Reason};
 use crate::state::{State, Verdict};
+use crate::stream::Waiting;
 use crate::why::{self, Fault, TEXT_ROOM};
 
 /// The reference hub.
@@ -18,6 +19,8 @@ pub struct Hub {
     state: State,
     /// The command under way at each index.
     open: [Option<Command>; CONTROLLERS],
+    /// What is there of the packet that is coming in off the serial line.
+    waiting: Waiting,
 }
 
 /// The answer 4, where the reply buffer is too small.
@@ -27,7 +30,7 @@ pub(crate) fn room_fault(room: usize, least: usize) -> Option<Reply> {
 
 /// The answer 0 with its octets.
 pub(crate) fn done(octets: Vec<u8>) -> Reply {
-    Reply { answer: answer::DONE, octets }
+    Reply::new(answer::DONE, octets)
 }
 
 impl Hub {
@@ -36,7 +39,7 @@ impl Hub {
         Hub::default()
     }
 
-    /// Clock and controllers, open commands aside.
+    /// Clock and controllers, open commands and waiting octets aside.
     pub fn state(&self) -> &State {
         &self.state
     }
@@ -61,6 +64,16 @@ impl Hub {
         hub
     }
 
+    /// What is there of the packet that is coming in.
+    pub fn waiting(&self) -> &Waiting {
+        &self.waiting
+    }
+
+    /// The same hub with other octets waiting, or none.
+    pub fn with_waiting(&self, waiting: Waiting) -> Hub {
+        Hub { waiting, ..self.clone() }
+    }
+
     /// Where a command is under way.
     fn busy(&self) -> [bool; CONTROLLERS] {
         std::array::from_fn(|index| self.open[index].is_some())
@@ -70,6 +83,7 @@ impl Hub {
     pub fn call(&mut self, call: &Call) -> Reply {
         match call {
             Call::Command { packet, room } => self.command(packet, *room),
+            Call::Stream { octets, room } => self.stream(octets, *room),
             Call::Report { index, status, room } => self.report(*index, *status, *room),
             Call::Clock { reading, room } => self.clock(*reading, *room),
             Call::Plug { index, address, version, manufacturer, supported, room } => {
@@ -89,7 +103,7 @@ impl Hub {
             return Reply::bare(answer::PACKET);
         };
         match self.state.judge(&packet, self.busy()) {
-            Verdict::Refused(_, octets) => Reply { answer: answer::REFUSED, octets },
+            Verdict::Refused(_, octets) => Reply::new(answer::REFUSED, octets),
             Verdict::Answered(octets) => done(octets),
             Verdict::Accepted { index, command, started: true } => {
                 self.open[index] = Some(command);
@@ -97,6 +111,20 @@ impl Hub {
             }
             Verdict::Accepted { index, command, started: false } => done(self.state.act(index, &command)),
         }
+    }
+
+    /// A lump of octets off the serial line: they are taken up to the end of the packet that is coming in, and a packet that is
+    /// finished is a command. With too little room nothing is taken.
+    pub fn stream(&mut self, octets: &[u8], room: usize) -> Reply {
+        if let Some(reply) = room_fault(room, REPLY_ROOM) {
+            return reply;
+        }
+        let (taken, packet) = self.waiting.take(octets);
+        let reply = match packet {
+            Some(packet) => self.command(&packet, room),
+            None => Reply::bare(answer::INCOMPLETE),
+        };
+        Reply { taken, ..reply }
     }
 
     /// What each check has against a packet, the one that answers first; none
@@ -229,7 +257,7 @@ impl Hub {
     pub fn load(&mut self, image: &[u8]) -> Reply {
         match image::load(image) {
             Ok(state) => {
-                *self = Hub { state, open: Default::default() };
+                *self = Hub { state, ..Hub::default() };
                 Reply::bare(answer::DONE)
             }
             Err(_) => Reply::bare(answer::IMAGE),

@@ -1,6 +1,7 @@
 //! A Bluetooth management hub for up to four controllers, written plainly from
-//! the rules: the hub itself, the at-once hub that knows no radio, and the
-//! reduction of a list of calls on the first to a list for the second.
+//! the rules: the hub itself, which takes packets or octets off a serial line,
+//! the at-once hub that knows no radio, and the reduction of a list of calls on
+//! the first to a list for the second.
 
 #![forbid(unsafe_code)]
 #![warn(missing_docs)]
@@ -21,6 +22,7 @@ pub mod reason;
 pub mod records;
 pub mod reduction;
 pub mod state;
+pub mod stream;
 pub mod table;
 pub mod why;
 
@@ -29,4 +31,5 @@ pub use call::{Call, Reply, Traced};
 pub use hub::Hub;
 pub use look_up::LookUp;
 pub use reduction::reduce;
+pub use stream::Waiting;
 pub use why::Fault;

@@ -3,21 +3,45 @@
 //! Struck are: all reports, commands refused Busy, and started commands that
 //! failed, were cut off by an unplug or are open at the end. A started command
 //! that a report finished moves to the place of that report.
+//!
+//! Before that, lumps are made packets: one that finished a packet is the command call of that packet, with its own room; all
+//! others are no calls.
 
 use crate::call::{Call, Traced};
 use crate::codes::{answer, status};
 use crate::packet::{little_endian, HEADER};
+use std::borrow::Cow;
 
 /// Where the status octet stands in Command Status and Command Complete.
 const STATUS_AT: usize = 8;
 /// The octets of a Command Status.
 const COMMAND_STATUS: usize = 9;
 
+/// The list with packets for lumps. The octets of a packet are those that the list shows to have been taken since the last one was
+/// finished.
+pub fn whole_packets(list: &[Traced]) -> Vec<Cow<'_, Traced>> {
+    let mut out = Vec::with_capacity(list.len());
+    let mut so_far: Vec<u8> = Vec::new();
+    for traced in list {
+        let Call::Stream { octets, room } = &traced.call else {
+            out.push(Cow::Borrowed(traced));
+            continue;
+        };
+        so_far.extend(&octets[..traced.taken]);
+        if traced.answer <= answer::REFUSED {
+            let call = Call::Command { packet: std::mem::take(&mut so_far), room: *room };
+            out.push(Cow::Owned(Traced { call, taken: 0, ..traced.clone() }));
+        }
+    }
+    out
+}
+
 /// The calls left for the at-once hub, each with the answer and octets expected.
 pub fn reduce(list: &[Traced]) -> Vec<Traced> {
     let mut left = Vec::with_capacity(list.len());
     let mut open: Vec<Open> = Vec::new();
-    for traced in list {
+    let list = whole_packets(list);
+    for traced in list.iter().map(Cow::as_ref) {
         match &traced.call {
             Call::Command { packet, .. } => match traced.answer {
                 answer::STARTED => open.push(Open { index: index_of(packet), packet }),
@@ -73,12 +97,12 @@ fn close<'a>(open: &mut Vec<Open<'a>>, index: u64) -> Vec<Open<'a>> {
 /// answer and octets.
 fn moved(command: Open, room: usize, report: &Traced) -> Traced {
     let call = Call::Command { packet: command.packet.to_vec(), room };
-    Traced { call, answer: report.answer, octets: report.octets.clone() }
+    Traced { call, answer: report.answer, octets: report.octets.clone(), taken: 0 }
 }
 
 /// An unplug without the Command Status that it owed to a command under way:
 /// that reply goes with the command.
 fn without_owed(unplug: &Traced, owed: usize) -> Traced {
     let octets = unplug.octets.get(owed..).unwrap_or_default().to_vec();
-    Traced { call: unplug.call.clone(), answer: unplug.answer, octets }
+    Traced { octets, ..unplug.clone() }
 }

@@ -6,16 +6,7 @@ use common::*;
 use reference::advertising::{Advertising, Instance, Turn, INSTANCES};
 use reference::Hub;
 
-/// Random numbers of a linear congruence; the high bits are used.
-struct Dice(u64);
-
 impl Dice {
-    /// A number below the bound.
-    fn below(&mut self, bound: u64) -> u64 {
-        self.0 = self.0.wrapping_mul(6_364_136_223_846_793_005).wrapping_add(1_442_695_040_888_963_407);
-        (self.0 >> 33) % bound
-    }
-
     /// A number of seconds, mostly small: 1 to the bound.
     fn seconds(&mut self, bound: u64) -> u16 {
         let most = if self.below(3) > 0 { bound.min(4) } else { bound };
@@ -186,27 +177,36 @@ fn look(hub: &Hub, waits: &mut [Option<Wait>; INSTANCES]) -> Option<(u32, u32)> 
     worst
 }
 
+/// Gives a command to index 0, every other time in two lumps off the serial line.
+fn give(dice: &mut Dice, hub: &mut Hub, code: u16, parameters: &[u8]) {
+    let packet = frame(code, 0, parameters);
+    if dice.below(2) == 0 {
+        hub.command(&packet, 1024);
+        return;
+    }
+    let place = dice.below(packet.len() as u64) as usize;
+    assert_eq!(hub.stream(&packet[..place], 1024).answer, 9);
+    assert_ne!(hub.stream(&packet[place..], 1024).answer, 9);
+}
+
 /// A random call to index 0 that changes who is there, or power and LE.
 fn change(dice: &mut Dice, hub: &mut Hub) {
     let which = 1 + dice.below(5) as u8;
     match dice.below(40) {
         0 => {
             let on = u8::from(dice.below(4) > 0);
-            send(hub, 0x0005, 0, &[on]);
+            give(dice, hub, 0x0005, &[on]);
         }
         1 => {
             let on = u8::from(dice.below(4) > 0);
-            send(hub, 0x000D, 0, &[on]);
+            give(dice, hub, 0x000D, &[on]);
         }
-        2..=12 => {
-            send(hub, 0x003F, 0, &[which]);
-        }
-        13 => {
-            send(hub, 0x0007, 0, &[1]);
-        }
+        2..=12 => give(dice, hub, 0x003F, &[which]),
+        13 => give(dice, hub, 0x0007, &[1]),
         _ => {
             let timeout = if dice.below(3) == 0 { dice.seconds(30) } else { 0 };
-            send(hub, 0x003E, 0, &instance(which, dice.seconds(9) - 1, timeout, &[], &[]));
+            let parameters = instance(which, dice.seconds(9) - 1, timeout, &[], &[]);
+            give(dice, hub, 0x003E, &parameters);
         }
     }
     hub.report(0, 0, 1024);

@@ -56,17 +56,17 @@ pub fn unchanged(code: u16, index: u16, settings: u32) -> Vec<u8> {
 
 /// An answer of 0.
 pub fn done(octets: Vec<u8>) -> Reply {
-    Reply { answer: 0, octets }
+    Reply::new(0, octets)
 }
 
 /// An answer of 2.
 pub fn refused(octets: Vec<u8>) -> Reply {
-    Reply { answer: 2, octets }
+    Reply::new(2, octets)
 }
 
 /// An answer without octets.
 pub fn bare(answer: u8) -> Reply {
-    Reply { answer, octets: Vec::new() }
+    Reply::bare(answer)
 }
 
 /// Sends a command with just enough room.
@@ -255,4 +255,20 @@ pub fn seconds_on_air(hub: &mut Hub, seconds: u32) -> Vec<u8> {
         on_air
     };
     (0..seconds).map(one).collect()
+}
+
+/// Random numbers of a linear congruence; the high bits are used.
+pub struct Dice(pub u64);
+
+impl Dice {
+    /// A number below the bound.
+    pub fn below(&mut self, bound: u64) -> u64 {
+        self.0 = self.0.wrapping_mul(6_364_136_223_846_793_005).wrapping_add(1_442_695_040_888_963_407);
+        (self.0 >> 33) % bound
+    }
+
+    /// So many octets.
+    pub fn octets(&mut self, count: usize) -> Vec<u8> {
+        (0..count).map(|_| self.below(256) as u8).collect()
+    }
 }
