@@ -3,19 +3,22 @@ use Prim.Native.Nat.{ℕ, _+_, _*_, _^_, _≤_, _<_}
 use native.Mathlib.Omega.{arith}
 use mathlib.Core.Path.{_≡_, refl, _∙_}
 use mathlib.Core.Bool.{false, true}
+use lib.ListN.{length}
 use Rattle.model.specs.Lengths as Lengths
 use Rattle.model.specs.Octets.{Octets, bytes}
 use Rattle.model.specs.Hub.{Call, Result}
 use Rattle.model.specs.Stream.{Streamed}
+use Rattle.model.specs.Moves.{Moved}
 use Rattle.model.specs.Meanings.{stateOk, badState, hubStream, meaning}
 use Rattle.model.specs.Theorems.{no-lump-reply-longer, no-reply-longer, room-most}
 use Rattle.model.specs.Answers.{countOf}
 use Rattle.replies.specs.Answers.{Gives}
+use Rattle.moves.specs.Moving as Moving
 use Rattle.model.specs.declared.Answer.{Answer}
 use Rattle.model.specs.declared.Answer.the-variants.{BadState}
 use Rattle.hub.proofs.Laws.{number-small}
 use Rattle.hub.proofs.Lumps.{lump-most}
-use Rattle.hub.specs.Entries.{LumpAnswer, packed, Returns, ReturnsTaken, Takes}
+use Rattle.hub.specs.Entries.{LumpAnswer, packed, Returns, ReturnsMoved, ReturnsTaken, Takes}
 
 -- what a call gives, packed
 pub returns-packed : (o : Result Octets) (a : Answer) (r : ℕ) (before after left : Octets) → Gives o a before after left → r ≡ packed a
@@ -31,6 +34,16 @@ gives-bad s c r d e n = rw (e, meaning, n) (record { answer = refl; count = refl
 -- no call's count is longer than the largest image
 pub count-call : (s : Octets) (c : Call) (a : Answer) (before after left : Octets) → Gives (meaning s c) a before after left → countOf a ≤ Lengths.largestImage
 count-call s c a before after left g = rw (g .count) (omega (arith, no-reply-longer s c, room-most c))
+
+-- what a move gives, packed
+pub returns-moved : (m : Moved) (a : Answer) (r : ℕ) (before after : Octets) → Moving.Gives m a before after → r ≡ packed a → ReturnsMoved m r before after
+unfolding packed
+returns-moved m a r before after g e = record { number = e ∙ rw (g .answer, g .count); output = g .output }
+
+-- no move's count is longer than the largest image
+pub count-moved : (m : Moved) (a : Answer) (before after : Octets) → length (m .octets) ≤ Lengths.largestImage → Moving.Gives m a before after
+    → countOf a ≤ Lengths.largestImage
+count-moved m a before after h g = rw (g .count) h
 
 -- what came of a lump, packed
 pub returns-taken : (o : Streamed Octets) (a : LumpAnswer) (r n : ℕ) (before after left : Octets) → Takes o a before after left → n ≡ packed (a .answer)

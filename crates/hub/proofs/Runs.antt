@@ -14,7 +14,6 @@ use Rattle.model.specs.Lengths as Lengths
 use Rattle.model.specs.State.{PlainHub}
 use Rattle.model.specs.Hub.{Call, Outcome, Result, call, callPlain, keep, saveOut, stateOf, within}
 use Rattle.model.specs.Hub as Hub
-use Rattle.model.specs.Proof.Invariant as Invariant
 use Rattle.model.specs.Layout.{decode, encode, lineCleared}
 use Rattle.model.specs.Stream.{HostCall, Streamed, direct, stream}
 use Rattle.model.specs.WellFormed.{callWide, hostCallWide, hostCallsWide}
@@ -23,7 +22,7 @@ use Rattle.model.specs.Meanings.{stateOk, streamMeaning}
 use Rattle.model.specs.Written.{loadAnswer}
 use Rattle.model.specs.Demand3.{HostEntry, entry, hostAfter, hostNext, hostTrace, lump, made}
 use Rattle.model.specs.Cutting.{LumpTold, comingIn, finishesPacket, notWell, takesAll, tooSmall}
-use Rattle.model.specs.Theorems.{answers-are-nine, count-fits, demand-3, load-writes-nothing, lump-is-told, no-lump-reply-longer}
+use Rattle.model.specs.Theorems.{answers-are-seven, count-fits, demand-3, load-writes-nothing, lump-is-told, no-lump-reply-longer}
 use Rattle.model.specs.Proof.Tests.{and-true, both, either, equal, no-way}
 use Rattle.model.specs.Proof.Demand3.{state-back}
 use Rattle.hub.specs.Entries.{Returns, ReturnsTaken}
@@ -43,7 +42,7 @@ pub seen-is : (s : Octets) (c : Call) (r : ℕ) (before reply left : Octets) →
     → (answerIn r ≡ meaning s c .answer) × (countIn r ≡ length (meaning s c .octets)) × (octetsIn r reply ≡ meaning s c .octets)
 unfolding octetsIn
 seen-is s c r before reply left k =
-    let b = read-back r (meaning s c .answer) (length (meaning s c .octets)) (k .number) (answers-are-nine s c) (count-fits s c) in
+    let b = read-back r (meaning s c .answer) (length (meaning s c .octets)) (k .number) (omega (arith, answers-are-seven s c)) (count-fits s c) in
     (b .0, b .1, rw (b .1, k .reply) (take-append-seam (meaning s c .octets) (drop (length (meaning s c .octets)) before)))
 
 -- an answer of 0 to 9, a count of 24 bits and the octets taken are read back too
@@ -203,8 +202,8 @@ by-room Q room f =
 
 -- save leaves the plain hub as it was
 plain-same : (p : PlainHub) (room : ℕ) → stateOf p (within Lengths.largestImage room (saveOut p)) ≡ p
-unfolding within stateOf
-plain-same p room = either {A = Outcome} (λ o. stateOf p o ≡ p) (ltb room Lengths.largestImage) (λ _. refl) (λ _. Invariant.save-same p)
+unfolding within stateOf saveOut
+plain-same p room = either {A = Outcome} (λ o. stateOf p o ≡ p) (ltb room Lengths.largestImage) (λ _. refl) (λ _. refl)
 
 -- and so the state
 save-same : (s : Octets) (room : ℕ) → meaning s (Hub.save room) .state ≡ s

@@ -6,6 +6,7 @@ use lib.ListN.{length, drop}
 use Rattle.model.specs.Octets.{Octets}
 use Rattle.model.specs.Hub.{Result}
 use Rattle.model.specs.Stream.{Streamed}
+use Rattle.model.specs.Moves.{Moved}
 use Rattle.model.specs.Answers.{numberOf, countOf}
 use Rattle.model.specs.declared.Answer.{Answer}
 use Rattle.model.specs.declared.LookUpReply.{LookUpReply}
@@ -35,6 +36,12 @@ pub record ReturnsTaken (o : Streamed Octets) (r : ℕ) (before after left : Oct
   pub number : r ≡ o .result .answer + 256 * length (o .result .octets) + 2 ^ 32 * o .taken
   pub reply : after ≡ o .result .octets ++ drop (length (o .result .octets)) before
   pub state : left ≡ o .result .state
+
+-- The number returned is that of the move m with the count of its octets; the output `before` has become `after`, with these octets at its front and the
+-- rest untouched (02, E7). No state is lent.
+pub record ReturnsMoved (m : Moved) (r : ℕ) (before after : Octets) : Type 0 where
+  pub number : r ≡ m .answer + 256 * length (m .octets)
+  pub output : after ≡ m .octets ++ drop (length (m .octets)) before
 
 -- The number returned is that of the answer with the count of its octets and, in its upper half, the status; the text buffer `before` has become `after`, with
 -- these octets at its front and the rest untouched. The state is lent for reading only.

@@ -1,5 +1,6 @@
-// The hub: the order of a call, and the twelve functions that C calls: 01's seven, one that takes octets off a serial line, and four that only read: one
-// tells a name, one what is on air, one why a packet would be refused, and one where a record stands.
+// The hub: the order of a call, and the fourteen functions that C calls: 01's seven, one that takes octets off a serial line, four that only read: one
+// tells a name, one what is on air, one why a packet would be refused, and one where a record stands; and two that move an image from one version to the
+// other.
 ghost use mathlib.Core.Path.{_≡_};
 ghost use Prim.Native.Nat.{_+_, _≤_};
 ghost use mathlib.Core.List.{_++_};
@@ -7,6 +8,7 @@ ghost use lib.ListN.{length};
 ghost use Rattle.model.specs.Lengths as Lengths;
 ghost use Rattle.model.specs.Hub as Hub;
 ghost use Rattle.model.specs.Meanings.{stateOk, meaning, hubCommand, hubReport, hubClock, hubPlug, hubUnplug, hubSave, hubLoad, hubLookUp, hubName, hubOnAir, hubStream};
+ghost use Rattle.model.specs.Moves.{hubDowngrade, hubUpgrade};
 ghost use Rattle.model.specs.Answers.{countOf};
 ghost use Rattle.replies.specs.Answers.{Gives};
 ghost use mathlib.Core.Bool.{true};
@@ -14,7 +16,7 @@ ghost use Rattle.model.specs.Layout.{decode, lineCleared};
 ghost use Rattle.model.specs.Stream.{grown, lengthSaid, packetIn};
 ghost use Rattle.why.specs.Findings.{why};
 ghost use Rattle.why.specs.Meaning.{hubWhy, textBuffer, told};
-ghost use Rattle.hub.specs.Entries.{packed, lookUpNumber, Explains, Returns, ReturnsTaken, Takes};
+ghost use Rattle.hub.specs.Entries.{packed, lookUpNumber, Explains, Returns, ReturnsMoved, ReturnsTaken, Takes};
 use model::Answer;
 use model::LookUpReply;
 use model::lengths;
@@ -418,6 +420,24 @@ pub extern "C" fn hub_load(state: &mut [u8], image: &[u8]) -> u64
 {
     let a = restore::load(state, image);
     replies::number(a)
+}
+
+// C's move of an image to version 2: no state is lent.
+#[no_mangle]
+pub extern "C" fn hub_upgrade(image: &[u8], out: &mut [u8]) -> u64
+    ensures { λ r. ⌜ ReturnsMoved (hubUpgrade (now (image .entry)) (length (now (out .entry)))) r (now (out .entry)) (now (out .exit)) ⌝ }
+{
+    let a = moves::upgrade(image, out);
+    pack(a)
+}
+
+// C's move of an image back to version 1.
+#[no_mangle]
+pub extern "C" fn hub_downgrade(image: &[u8], out: &mut [u8]) -> u64
+    ensures { λ r. ⌜ ReturnsMoved (hubDowngrade (now (image .entry)) (length (now (out .entry)))) r (now (out .entry)) (now (out .exit)) ⌝ }
+{
+    let a = moves::downgrade(image, out);
+    pack(a)
 }
 
 // C's question for a name: the state is only read.

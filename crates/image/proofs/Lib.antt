@@ -1,2 +1,1 @@
 pub mod SaveLaws
-pub mod HasImage

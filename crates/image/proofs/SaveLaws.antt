@@ -4,22 +4,25 @@ use Prim.Native.Nat.{ℕ, zero, suc, _+_, _*_, _-_, _≤_, _<_}
 use native.Mathlib.Omega.{arith}
 use native.Mathlib.Nat.{mul-suc, mul-le-mul-left}
 use mathlib.Core.List.{List, [], _∷_, _++_, map, append-assoc}
-use lib.ListN.{length, getD, take, drop, length-append, drop-of-length-le, take-append-drop}
-use lib.Seq.{drop-cons, length-take-le}
+use lib.ListN.{length, getD, take, drop, length-append, length-drop, drop-of-length-le, take-append-drop}
+use lib.Seq.{drop-cons, length-take-le, take-all}
 use lib.Dec.{eqb, lit≤}
 use mathlib.Core.Bool.{true, false}
 use mathlib.Core.Option.{none}
 use Rattle.model.specs.Lengths as Lengths
 use Rattle.model.specs.declared.Settings.{Settings}
-use Rattle.model.specs.Octets.{Octets, be16, be32, joined}
-use Rattle.model.specs.State.{Controller, Table, hardwareOk, settingsOf, tableOf}
-use Rattle.model.specs.Hub.{finished}
+use Rattle.model.specs.declared.Version.the-variants.{Two}
+use Rattle.model.specs.Octets.{Octets, be16, be32, joined, octet, usedPart}
+use Rattle.model.specs.State.{Controller, Table, namePart, settingsOf, tableOf}
+use Rattle.model.specs.Hub.{saveOut}
 use Rattle.model.specs.Layout.{controllersIn, decode}
 use Rattle.model.specs.Meanings.{stateOk}
 use Rattle.model.specs.Tables.{blockedRule, deviceRule, entries, identityKeyRule, linkKeyRule, longTermKeyRule, tableRules, uuidRule}
-use Rattle.model.specs.Image.{controllerImage, controllerImages, image, radioOk, tableImage, flagsOf}
+use Rattle.model.specs.Image.{bredrFlag, controllerImage, controllerImages, flagsOf, image, imageOf, nameImage, namesImage, tableImage, versionOctet}
 use Rattle.model.specs.WellFormed.{plainOk, wellFormed}
-use Rattle.model.specs.Proof.Parts.{controller-fit, tables-many}
+use Rattle.model.specs.Proof.Fields.{used-most}
+use Rattle.model.specs.Proof.Fixed.{name-parts}
+use Rattle.model.specs.Proof.Parts.{controller-fit, lengths, tables-many}
 use Rattle.model.specs.Tables.{ruleAt}
 use Rattle.model.specs.Proof.RoundTrip.{image-most}
 use Rattle.model.specs.Proof.Demand3.{state-back, state-well}
@@ -29,8 +32,8 @@ use Rattle.octets.proofs.Parts.{length-part, length-writeAt, write-left, write-
 use Rattle.table.specs.Slots.{InUse, NextUsed, tableAt}
 use Rattle.table.proofs.Regions.{length-table, slot-room}
 use Rattle.table.proofs.Walk.{in-use-entries, next-entries}
-use Rattle.layout.specs.Places.{Ready, controllerOf, placeOf, presentAt, tablePlace}
-use Rattle.layout.proofs.Reading.{absent-slot, name-at, present-slot}
+use Rattle.layout.specs.Places.{Ready, controllerOf, presentAt, tablePlace}
+use Rattle.layout.proofs.Reading.{absent-slot, present-slot}
 use Rattle.layout.proofs.Change.{controller-fine}
 use Rattle.layout.proofs.Tables.{table-at}
 use Rattle.outcomes.specs.Outcomes.{ended}
@@ -251,40 +254,73 @@ pub length-fixed : (i : ℕ) (m : Settings) → length (m .radio .hardware .publ
 unfolding fixedImage
 length-fixed i m a b = simp length-append (omega (arith, length-numbers m))
 
--- a controller's image: the fixed part, the name, the tables
-pub image-parts : (i : ℕ) (c : Controller) → controllerImage i c ≡ fixedImage i (settingsOf c) ++ (c .host .name ++ joined (map tableImage (c .host .tables)))
-unfolding controllerImage flagsOf fixedImage numbersImage flagsIn settingsOf
+-- the length of a name's used part and that part, written one behind the other, are the name's image
+pub name-written : (n used d d1 d2 : Octets) (p : ℕ) → used ≡ usedPart n → length used ≤ 249 → d1 ≡ writeAt d p (length used ∷ []) → d2 ≡ writeAt d1 (p + 1) used
+    → (p + (length used + 1) ≡ p + length (nameImage Two n)) × (p + (length used + 1) ≤ p + 250) × (d2 ≡ writeAt d p (nameImage Two n))
+unfolding nameImage
+name-written n used d d1 d2 p u l a b =
+    let f : length used ≡ length (usedPart n) = rw u in
+    (omega arith, omega arith, b ∙ rw (a, then d p (length used ∷ []) used (p + 1) refl, u))
+
+-- the name by its number
+part-name : (n : Octets) → namePart 0 n ≡ take 249 n
+unfolding namePart
+part-name n = refl
+
+-- the short name by its number: all that is behind the name
+part-short : (n : Octets) → length n ≡ 260 → namePart 1 n ≡ drop 249 n
+unfolding namePart
+part-short n l = take-all 11 (drop 249 n) (omega (arith, length-drop 249 n))
+
+-- the image of both names, by their numbers: no longer than the names are
+pub names-by : (s : Octets) (i : ℕ) → Ready s i
+    → (namesImage Two (controllerOf s i .host .name) ≡ nameImage Two (namePart 0 (controllerOf s i .host .name)) ++ nameImage Two (namePart 1 (controllerOf s i .host .name)))
+    × (length (nameImage Two (namePart 0 (controllerOf s i .host .name))) + length (nameImage Two (namePart 1 (controllerOf s i .host .name))) ≤ 260)
+unfolding namesImage nameImage octet
+names-by s i ready =
+    let n : Octets = controllerOf s i .host .name in
+    let ok = controller-fine s i ready in
+    let l : length n ≡ 260 = lengths (controllerOf s i) ok .name in
+    let h = name-parts n l (and-true (eqb (length n) 260) _ (controller-fit (controllerOf s i) ok .name) .1) in
+    let a = used-most (take 249 n) 248 (equal _ _ (h .1)) in
+    let b = used-most (drop 249 n) 10 (equal _ _ (h .3)) in
+    rw (part-name n, part-short n l) (refl, omega arith)
+
+-- a controller's image: the fixed part, the names, the tables
+pub image-parts : (i : ℕ) (c : Controller)
+    → controllerImage Two i c ≡ fixedImage i (settingsOf c) ++ (namesImage Two (c .host .name) ++ joined (map tableImage (c .host .tables)))
+unfolding controllerImage flagsOf bredrFlag fixedImage numbersImage flagsIn settingsOf
 image-parts i c = simp append-assoc
 
--- the fixed part, the name and the tables, written one behind the other, are the controller's image
-pub controller-written : (s : Octets) (i : ℕ) (m : Settings) (d d1 d2 d3 : Octets) (p np r : ℕ) → Ready s i → m ≡ settingsOf (controllerOf s i)
+-- the fixed part, the names and the tables, written one behind the other, are the controller's image
+pub controller-written : (s : Octets) (i : ℕ) (m : Settings) (d d1 d2 d3 d4 : Octets) (p q t r : ℕ) → Ready s i → m ≡ settingsOf (controllerOf s i)
     → d1 ≡ writeAt d p (fixedImage i m)
-    → np ≡ placeOf i 4 → d2 ≡ writeAt d1 (p + 24) (part s np 260)
-    → r ≡ p + 284 + length (joined (map tableImage (controllerOf s i .host .tables)))
-    → d3 ≡ writeAt d2 (p + 284) (joined (map tableImage (controllerOf s i .host .tables)))
-    → (r ≡ p + length (controllerImage i (controllerOf s i))) × (d3 ≡ writeAt d p (controllerImage i (controllerOf s i)))
-unfolding settingsOf radioOk hardwareOk
-controller-written s i m d d1 d2 d3 p np r ready em a en b g e =
+    → q ≡ p + 24 + length (nameImage Two (namePart 0 (controllerOf s i .host .name)))
+    → d2 ≡ writeAt d1 (p + 24) (nameImage Two (namePart 0 (controllerOf s i .host .name)))
+    → t ≡ q + length (nameImage Two (namePart 1 (controllerOf s i .host .name)))
+    → d3 ≡ writeAt d2 q (nameImage Two (namePart 1 (controllerOf s i .host .name)))
+    → r ≡ t + length (joined (map tableImage (controllerOf s i .host .tables)))
+    → d4 ≡ writeAt d3 t (joined (map tableImage (controllerOf s i .host .tables)))
+    → (r ≡ p + length (controllerImage Two i (controllerOf s i))) × (d4 ≡ writeAt d p (controllerImage Two i (controllerOf s i)))
+unfolding settingsOf
+controller-written s i m d d1 d2 d3 d4 p q t r ready em a eq b et e g f =
     let c : Controller = controllerOf s i in
-    let h = controller-fit c (controller-fine s i ready) in
-    let p6 : length (c .radio .hardware .publicAddress) ≡ 6 = equal _ _
-    (and-true (eqb (length (c .radio .hardware .publicAddress)) 6) _ (and-true (hardwareOk (c .radio .hardware)) _ (h .radio) .0) .0) in
-    let s6 : length (c .radio .staticAddress) ≡ 6 = equal _ _ (h .staticAddress) in
-    let n : length (c .host .name) ≡ 260 = equal _ _ (and-true (eqb (length (c .host .name)) 260) _ (h .name) .0) in
+    let h = lengths c (controller-fine s i ready) in
     let x : Octets = fixedImage i (settingsOf c) in
-    let l : length x ≡ 24 = length-fixed i (settingsOf c) p6 s6 in
-    let y : Octets = c .host .name in
+    let l : length x ≡ 24 = length-fixed i (settingsOf c) (h .publicAddress) (h .staticAddress) in
+    let n : Octets = nameImage Two (namePart 0 (c .host .name)) in
+    let k : Octets = nameImage Two (namePart 1 (c .host .name)) in
     let z : Octets = joined (map tableImage (c .host .tables)) in
-    let k : part s np 260 ≡ y = rw en (name-at s i) in
-    let f : d3 ≡ writeAt d1 (p + 24) (y ++ z) = e ∙ rw (b, k) (then d1 (p + 24) y z (p + 284) (omega arith)) in
-    let q : d3 ≡ writeAt d p (x ++ (y ++ z)) = f ∙ rw (a, em) (then d p x (y ++ z) (p + 24) (omega arith)) in
-    rw (image-parts i c) (g ∙ simp length-append (omega arith), q)
+    let w : d3 ≡ writeAt d1 (p + 24) (n ++ k) = e ∙ rw b (then d1 (p + 24) n k q (sym eq)) in
+    let v : d4 ≡ writeAt d1 (p + 24) ((n ++ k) ++ z) = f ∙ rw w (then d1 (p + 24) (n ++ k) z t (omega (arith, length-append n k))) in
+    let u : d4 ≡ writeAt d p (x ++ ((n ++ k) ++ z)) = v ∙ rw (a, em) (then d p x ((n ++ k) ++ z) (p + 24) (omega arith)) in
+    rw (image-parts i c, names-by s i ready .0) (g ∙ simp length-append (omega arith), u)
 
 -- 4. The controllers, and the head before them --------------------------------------------------------------------------------------------------------
 
 -- the images of the controllers from index i on
 unfoldable pub imagesFrom : Octets → ℕ → List Octets
-imagesFrom s i = controllerImages i (drop i (decode s .plain .controllers))
+imagesFrom s i = controllerImages Two i (drop i (decode s .plain .controllers))
 
 -- the images of the controllers from index i on are still to be written, from the place p on; n are written
 pub record SavingAll (s d₀ d : Octets) (p n i : ℕ) : Type 0 where
@@ -310,7 +346,7 @@ module _ (s : Octets) (i : ℕ) (l : i < 4) where
   next-index = omega arith
 
   -- an index with a controller, and one without
-  images-present : presentAt s i ≡ true → imagesFrom s i ≡ controllerImage i (controllerOf s i) ∷ imagesFrom s (i + 1)
+  images-present : presentAt s i ≡ true → imagesFrom s i ≡ controllerImage Two i (controllerOf s i) ∷ imagesFrom s (i + 1)
   unfolding imagesFrom controllerImages
   images-present e = rw (slot-here, present-slot s i e, next-index)
 
@@ -325,11 +361,11 @@ all-first s d₀ = record { long = refl; room = omega arith; few = omega arith; 
 
 module _ (s d₀ d : Octets) (p n i : ℕ) (l : i < 4) (v : SavingAll s d₀ d p n i) where
   -- a controller stands there: its image is written, and it is counted
-  pub all-present : (d′ : Octets) (r : ℕ) → presentAt s i ≡ true → r ≡ p + length (controllerImage i (controllerOf s i)) → r ≤ p + 4002
-      → d′ ≡ writeAt d p (controllerImage i (controllerOf s i))
+  pub all-present : (d′ : Octets) (r : ℕ) → presentAt s i ≡ true → r ≡ p + length (controllerImage Two i (controllerOf s i)) → r ≤ p + 4002
+      → d′ ≡ writeAt d p (controllerImage Two i (controllerOf s i))
       → SavingAll s d₀ d′ r (n + 1) (i + 1)
   all-present d′ r e g h w =
-      let x : Octets = controllerImage i (controllerOf s i) in
+      let x : Octets = controllerImage Two i (controllerOf s i) in
       let f : imagesFrom s i ≡ x ∷ imagesFrom s (i + 1) = images-present s i l e in
       let b = v .room in
       let k = v .few in
@@ -356,16 +392,15 @@ images-end : (s : Octets) (i : ℕ) → 4 ≤ i → imagesFrom s i ≡ []
 unfolding imagesFrom controllerImages
 images-end s i l = let f : drop i (decode s .plain .controllers) ≡ [] = drop-of-length-le (decode s .plain .controllers) {i = i} (rw (four-slots s) l) in rw f
 
--- the three writes of the head, over controllers that are written behind it
-head-written : (d d1 d2 d3 body : Octets) (p n : ℕ) → 6 ≤ length d → d1 ≡ writeAt (writeAt d 6 body) 0 (be32 p) → d2 ≡ writeAt d1 4 (1 ∷ [])
-    → d3 ≡ writeAt d2 5 (n ∷ []) → d3 ≡ writeAt d 0 (be32 p ++ (1 ∷ n ∷ body))
+-- the three writes of the head, over controllers that are written behind it; v is the version octet
+pub head-written : (d d1 d2 d3 body : Octets) (p v n : ℕ) → 6 ≤ length d → d1 ≡ writeAt (writeAt d 6 body) 0 (be32 p) → d2 ≡ writeAt d1 4 (v ∷ [])
+    → d3 ≡ writeAt d2 5 (n ∷ []) → d3 ≡ writeAt d 0 (be32 p ++ (v ∷ n ∷ body))
 unfolding be32
-head-written d d1 d2 d3 body p n l a b c =
+head-written d d1 d2 d3 body p v n l a b c =
     let e : Octets = writeAt d 6 body in
-    let f : d3 ≡ writeAt d2 5 (n ∷ []) = c in
-    let g : d3 ≡ writeAt d1 4 (1 ∷ n ∷ []) = c ∙ rw b (then d1 4 (1 ∷ []) (n ∷ []) 5 refl) in
-    let h : d3 ≡ writeAt e 0 (be32 p ++ (1 ∷ n ∷ [])) = g ∙ rw a (then e 0 (be32 p) (1 ∷ n ∷ []) 4 refl) in
-    h ∙ write-swap d 0 (be32 p ++ (1 ∷ n ∷ [])) 6 body (omega arith) l ∙ then d 0 (be32 p ++ (1 ∷ n ∷ [])) body 6 refl
+    let g : d3 ≡ writeAt d1 4 (v ∷ n ∷ []) = c ∙ rw b (then d1 4 (v ∷ []) (n ∷ []) 5 refl) in
+    let h : d3 ≡ writeAt e 0 (be32 p ++ (v ∷ n ∷ [])) = g ∙ rw a (then e 0 (be32 p) (v ∷ n ∷ []) 4 refl) in
+    h ∙ write-swap d 0 (be32 p ++ (v ∷ n ∷ [])) 6 body (omega arith) l ∙ then d 0 (be32 p ++ (v ∷ n ∷ [])) body 6 refl
 
 -- the hub that a well-formed state stands for is valid
 pub plain-fine : (s : Octets) → stateOk s ≡ true → plainOk (decode s .plain) ≡ true
@@ -374,14 +409,14 @@ plain-fine s ok = and-true (plainOk (decode s .plain)) _ (state-well s ok) .0
 
 -- the image is as long as the place reached: the head of six octets, and the controllers behind it
 length-image : (s : Octets) (p : ℕ) → p ≡ 6 + length (joined (imagesFrom s 0)) → length (image (decode s .plain)) ≡ p
-unfolding image imagesFrom be32
+unfolding image imageOf imagesFrom be32
 length-image s p g = omega arith
 
 -- the whole image is written
 pub all-written : (s d₀ d d1 d2 d3 : Octets) (p n i : ℕ) (r : Answer) → stateOk s ≡ true → Lengths.largestImage ≤ length d₀ → 4 ≤ i
-    → SavingAll s d₀ d p n i → d1 ≡ writeAt d 0 (be32 p) → d2 ≡ writeAt d1 4 (1 ∷ []) → d3 ≡ writeAt d2 5 (n ∷ []) → r ≡ Done p
-    → Gives (ended s (finished (image (decode s .plain)) (decode s .plain))) r d₀ d3 s
-unfolding image imagesFrom
+    → SavingAll s d₀ d p n i → d1 ≡ writeAt d 0 (be32 p) → d2 ≡ writeAt d1 4 (2 ∷ []) → d3 ≡ writeAt d2 5 (n ∷ []) → r ≡ Done p
+    → Gives (ended s (saveOut (decode s .plain))) r d₀ d3 s
+unfolding saveOut image imageOf versionOctet imagesFrom
 all-written s d₀ d d1 d2 d3 p n i r ok big l v a b c e =
     let q : imagesFrom s i ≡ [] = images-end s i l in
     let body : Octets = joined (imagesFrom s 0) in
@@ -389,8 +424,8 @@ all-written s d₀ d d1 d2 d3 p n i r ok big l v a b c e =
     let f : n + 0 ≡ length (imagesFrom s 0) = rw q at (v .counts) in
     let k : n ≡ length (imagesFrom s 0) = omega arith in
     let w : d ≡ writeAt d₀ 6 body = sym (write-none d p) ∙ (rw q at (v .left)) in
-    let h : d3 ≡ writeAt d₀ 0 (be32 p ++ (1 ∷ n ∷ body)) = head-written d₀ d1 d2 d3 body p n (omega arith) (a ∙ rw w) b c in
+    let h : d3 ≡ writeAt d₀ 0 (be32 p ++ (2 ∷ n ∷ body)) = head-written d₀ d1 d2 d3 body p 2 n (omega arith) (a ∙ rw w) b c in
     let m : d3 ≡ writeAt d₀ 0 (image (decode s .plain)) = rw (g, k) at h in
     let plain : plainOk (decode s .plain) ≡ true = plain-fine s ok in
     let long : length (image (decode s .plain)) ≡ p = length-image s p g in
-    ends-done s (image (decode s .plain)) (decode s .plain) p d₀ d3 s r e long (omega (arith, image-most (decode s .plain) plain)) m (state-back s ok)
+    ends-done s (image (decode s .plain)) (decode s .plain) p d₀ d3 s r e long (omega (arith, image-most Two (decode s .plain) plain)) m (state-back s ok)

@@ -1,13 +1,13 @@
 -- The parts of a controller's image that the contracts cite, in the order in which they lie.
-use Prim.Native.Nat.{ℕ, _+_}
+use Prim.Native.Nat.{ℕ}
 use mathlib.Core.List.{_∷_, _++_}
 use Rattle.model.specs.declared.Settings.{Settings}
 use Rattle.model.specs.Octets.{Octets, be16, be32}
-use Rattle.model.specs.State.{flag}
+use Rattle.model.specs.Image.{flagWord}
 
--- the flags of an image, from the settings: connectable, bondable, Low Energy (01, The image)
+-- the flags of an image of version 2, from the settings: connectable, bondable, BR/EDR, Low Energy (01, The image; 02, E7)
 unfoldable pub flagsIn : Settings → ℕ
-flagsIn m = flag (m .radio .connectable) 2 + flag (m .host .bondable) 16 + flag (m .radio .lowEnergy) 512
+flagsIn m = flagWord (m .radio .connectable) (m .host .bondable) (m .radio .bredr) (m .radio .lowEnergy)
 
 -- the numbers of a controller's image, 11 octets: version, manufacturer, supported settings, flags (01, The image)
 unfoldable pub numbersImage : Settings → Octets

@@ -1,15 +1,15 @@
-// The image: what save writes of a state and load takes. Numbers stand high octet first; addresses, names and records stand as in packets.
+// The image that save writes of a state, of version 2. Numbers stand high octet first; addresses, names and records stand as in packets.
 ghost use mathlib.Core.Path.{_≡_};
 ghost use mathlib.Core.Bool.{true};
 ghost use Prim.Native.Nat.{_+_, _*_, _≤_, _<_};
 ghost use mathlib.Core.List.{map};
-ghost use mathlib.Core.Option.{none};
-ghost use lib.ListN.{getD, length};
+ghost use lib.ListN.{length};
 ghost use Rattle.model.specs.Lengths as Lengths;
 ghost use Rattle.model.specs.Octets.{joined};
-ghost use Rattle.model.specs.State.{flag};
-ghost use Rattle.model.specs.Hub.{finished, saveOut};
-ghost use Rattle.model.specs.Image.{controllerImage, hasImage, image, slotInImage, tableImage};
+ghost use Rattle.model.specs.State.{namePart};
+ghost use Rattle.model.specs.Hub.{saveOut};
+ghost use Rattle.model.specs.declared.Version.the-variants.{Two};
+ghost use Rattle.model.specs.Image.{controllerImage, nameImage, tableImage};
 ghost use Rattle.model.specs.Layout.{decode};
 ghost use Rattle.model.specs.Meanings.{stateOk};
 ghost use Rattle.image.specs.Images.{fixedImage, flagsIn, numbersImage};
@@ -63,16 +63,13 @@ fn save_tables(state: &[u8], index: u64, out: &mut [u8], place: usize) -> usize
     p
 }
 
-// The flags that the image keeps: connectable, bondable, Low Energy.
+// The flags that the image keeps: connectable, bondable, BR/EDR, Low Energy.
 fn flags_of(m: Settings) -> u64
     ensures { λ r. ⌜ r ≡ flagsIn m ⌝ }
 {
     let r = m.radio;
     let h = m.host;
-    let connectable = rules::flag_of(r.connectable, 2);
-    let bondable = rules::flag_of(h.bondable, 16);
-    let low_energy = rules::flag_of(r.lowEnergy, 512);
-    connectable + bondable + low_energy
+    rules::flag_word(r.connectable, h.bondable, r.bredr, r.lowEnergy)
 }
 
 // The numbers of a controller, as they lie in the image.
@@ -99,7 +96,7 @@ fn numbers(m: Settings) -> [u8; 11]
     ]
 }
 
-// Writes the fixed part of a controller's image but for the name, 24 octets.
+// Writes the fixed part of a controller's image but for the names, 24 octets.
 fn save_fixed(m: Settings, index: u64, out: &mut [u8], place: usize)
     requires { ⌜ (index < 4) × (place + 24 ≤ length (now out)) ⌝ }
     ensures { λ _. ⌜ now (out .exit) ≡ writeAt (now (out .entry)) place (fixedImage index m) ⌝ }
@@ -115,26 +112,43 @@ fn save_fixed(m: Settings, index: u64, out: &mut [u8], place: usize)
     octets::put8(out, place, index as u8);
 }
 
+// Writes a name of the controller at an index, the short name where `which` is not 0: the length of its used part, then that part. Gives the place
+// behind it.
+fn save_name(state: &[u8], index: u64, which: u64, out: &mut [u8], place: usize) -> usize
+    requires { ⌜ (length (now state) ≡ Lengths.state) × (index < 4) × (place + 250 ≤ length (now out)) ⌝ }
+    ensures { λ r. ⌜
+        (r ≡ place + length (nameImage Two (namePart which (controllerOf (now (state .entry)) index .host .name)))) × (r ≤ place + 250)
+        × (now (out .exit) ≡ writeAt (now (out .entry)) place (nameImage Two (namePart which (controllerOf (now (state .entry)) index .host .name))))
+        ⌝ }
+{
+    let used = layout::used_name(state, index, which);
+    let n = used.len();
+    let size = n + 1;
+    octets::put8(out, place, n as u8);
+    octets::copy_into(out, place + 1, used);
+    place + size
+}
+
 // Writes the image of the controller at an index. Gives the place behind it.
 fn save_controller(state: &[u8], index: u64, out: &mut [u8], place: usize) -> usize
     requires { ⌜ Ready (now state) index × (place + 4002 ≤ length (now out)) ⌝ }
     ensures { λ r. ⌜
-        (r ≡ place + length (controllerImage index (controllerOf (now (state .entry)) index))) × (r ≤ place + 4002)
-        × (now (out .exit) ≡ writeAt (now (out .entry)) place (controllerImage index (controllerOf (now (state .entry)) index)))
+        (r ≡ place + length (controllerImage Two index (controllerOf (now (state .entry)) index))) × (r ≤ place + 4002)
+        × (now (out .exit) ≡ writeAt (now (out .entry)) place (controllerImage Two index (controllerOf (now (state .entry)) index)))
         ⌝ }
 {
     let m = layout::settings_at(state, index);
     save_fixed(m, index, out, place);
-    octets::copy_part(out, place + 24, state, layout::name_place(index), 260);
-    save_tables(state, index, out, place + 284)
+    let short = save_name(state, index, 0, out, place + 24);
+    let tables = save_name(state, index, 1, out, short);
+    save_tables(state, index, out, tables)
 }
 
-// Writes the image of the state: the controllers in ascending order, then the head before them, which says how long all is and how many there are.
-fn write_image(state: &[u8], out: &mut [u8]) -> Answer
+// Saves the state: the images of the controllers in ascending order, then the head before them, which says how long all is and how many there are.
+pub fn save(state: &[u8], out: &mut [u8]) -> Answer
     requires { ⌜ (stateOk (now state) ≡ true) × (Lengths.largestImage ≤ length (now out)) ⌝ }
     ensures { λ r. ⌜
-        Gives (ended (now (state .entry)) (finished (image (decode (now (state .entry)) .plain)) (decode (now (state .entry)) .plain))) r
-        (now (out .entry)) (now (out .exit)) (now (state .entry))
+        Gives (ended (now (state .entry)) (saveOut (decode (now (state .entry)) .plain))) r (now (out .entry)) (now (out .exit)) (now (state .entry))
         ⌝ }
 {
     let mut place: usize = 6;
@@ -148,47 +162,7 @@ fn write_image(state: &[u8], out: &mut [u8]) -> Answer
         index += 1;
     }
     octets::put_be32(out, 0, place as u64);
-    octets::put8(out, 4, 1);
+    octets::put8(out, 4, 2);
     octets::put8(out, 5, count);
     Answer::Done(place)
-}
-
-// Whether an image can say what stands at an index: no controller, or one that has BR/EDR on where it is supported.
-fn in_image(state: &[u8], index: u64) -> bool
-    requires { ⌜ (length (now state) ≡ Lengths.state) × (index < 4) ⌝ }
-    ensures { λ r. ⌜ r ≡ slotInImage (getD (decode (now (state .entry)) .plain .controllers) index none) ⌝ }
-{
-    if layout::present(state, index) {
-        let m = layout::settings_at(state, index);
-        return rules::bredr_as_supported(m.radio);
-    }
-    true
-}
-
-// Whether the state has an image.
-fn has_image(state: &[u8]) -> bool
-    requires { ⌜ length (now state) ≡ Lengths.state ⌝ }
-    ensures { λ r. ⌜ r ≡ hasImage (decode (now (state .entry)) .plain .controllers) ⌝ }
-{
-    if in_image(state, 0) {
-        if in_image(state, 1) {
-            if in_image(state, 2) {
-                return in_image(state, 3);
-            }
-        }
-    }
-    false
-}
-
-// Saves the state: its image, if it has one.
-pub fn save(state: &[u8], out: &mut [u8]) -> Answer
-    requires { ⌜ (stateOk (now state) ≡ true) × (Lengths.largestImage ≤ length (now out)) ⌝ }
-    ensures { λ r. ⌜
-        Gives (ended (now (state .entry)) (saveOut (decode (now (state .entry)) .plain))) r (now (out .entry)) (now (out .exit)) (now (state .entry))
-        ⌝ }
-{
-    if has_image(state) {
-        return write_image(state, out);
-    }
-    Answer::NotInImage
 }

@@ -1,4 +1,4 @@
--- The answers of a call, once: the number of each and the count of octets that comes with it (01, What a call answers; 8: 02, E5; 9: 02, E6). The
+-- The answers of a call, once: the number of each and the count of octets that comes with it (01, What a call answers; 8: 02, E7; 9: 02, E6). The
 -- model's results and the contracts of the code are both said by these two.
 use Prim.Native.Nat.{ℕ}
 pub use Rattle.model.specs.declared.Answer.{Answer}

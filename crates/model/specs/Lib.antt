@@ -13,11 +13,13 @@ pub mod Rules
 pub mod Immediate
 pub mod Commands
 pub mod Image
+pub mod Reading
 pub mod Hub
 pub mod Stream
 pub mod WellFormed
 pub mod Layout
 pub mod Meanings
+pub mod Moves
 pub mod Written
 pub mod Demand3
 pub mod Cutting
@@ -30,5 +32,6 @@ pub mod StaticAddresses
 pub mod WalkedSlots
 pub mod LowEnergyAlone
 pub mod SerialLine
+pub mod ImageExamples
 pub mod Proof
 pub mod Theorems

@@ -4,7 +4,7 @@ use mathlib.Core.Path.{_≡_, refl}
 use mathlib.Core.Bool.{Bool, true, false}
 use mathlib.Core.List.{List, [], _∷_, _++_}
 use mathlib.Core.Option.{some}
-use lib.ListN.{replicate}
+use lib.ListN.{drop, replicate, take}
 use Rattle.model.specs.Statuses as Statuses
 use Rattle.model.specs.Codes as Codes
 use Rattle.model.specs.Octets.{open-octets, octet}
@@ -16,6 +16,7 @@ use Rattle.model.specs.Rules.{open-rules}
 use Rattle.model.specs.Immediate.{open-immediate}
 use Rattle.model.specs.Commands.{open-commands}
 use Rattle.model.specs.Image.{open-image}
+use Rattle.model.specs.Reading.{open-reading}
 use Rattle.model.specs.Hub.{open-hub, Call, plug, report, save, unplug}
 use Rattle.model.specs.WellFormed.{open-wellformed, plainOk}
 use Rattle.model.specs.Layout.{open-layout}
@@ -117,10 +118,10 @@ lowEnergyAlone =
     ∷ gives (answered (plugLe ∷ []) (setTo 0xD00000000000)) (settingsChanged Codes.setStaticAddress 0x00 0x82)
     -- link keys go by support: a list of none is taken
     ∷ gives (answerBehind leAlone (send Codes.loadLinkKeys 0 (0 ∷ 0 ∷ 0 ∷ [])) ∷ []) (0 ∷ [])
-    -- save: 4 comes before 8, and 8 only where a supported BR/EDR is off
-    ∷ gives (answered leAlone (save 16013)) (4 ∷ [])
-    ∷ gives (answered leAlone (save 16014)) (8 ∷ [])
-    ∷ gives (answerBehind (leAlone ++ (setBredrTo 1 ∷ [])) (save 16014) ∷ answerBehind (plugLe ∷ []) (save 16014) ∷ []) (0 ∷ 0 ∷ [])
+    -- save: flag bit 7 is off where BR/EDR is, on where it is, and off where it is not supported (02, E7)
+    ∷ gives (take 2 (drop 23 (answered leAlone (save 16014)))) (0x02 ∷ 0x00 ∷ [])
+    ∷ gives (take 2 (drop 23 (answered (leAlone ++ (setBredrTo 1 ∷ [])) (save 16014)))) (0x02 ∷ 0x80 ∷ [])
+    ∷ gives (take 2 (drop 23 (answered (plugLe ∷ []) (save 16014)))) (0x02 ∷ 0x00 ∷ [])
     -- well formed: BR/EDR only where supported, BR/EDR or Low Energy on, discoverable only with BR/EDR
     ∷ gives (fits false false false true dualHardware ∷ fits false true true false dualHardware ∷ fits true true true true dualHardware ∷ []) (1 ∷ 1 ∷ 1 ∷ [])
     ∷ gives (fits false false false false dualHardware ∷ fits true true false true dualHardware ∷ fits true false true true dualHardware ∷ []) (0 ∷ 0 ∷ 0 ∷ [])
@@ -129,7 +130,7 @@ lowEnergyAlone =
 
 -- E5'S EXAMPLES HOLD
 pub low-energy-alone-holds : allGiven lowEnergyAlone ≡ true
-unfolding open-octets open-advertising open-state open-reasons open-tables open-rules open-immediate open-commands open-image open-hub open-wellformed
+unfolding open-octets open-advertising open-state open-reasons open-tables open-rules open-immediate open-commands open-image open-reading open-hub open-wellformed
     open-layout open-demand3 to dualHardware plugDual powerOn gives allGiven send refusedWith hubAfter answered addressOf plugBredr setTo setBredrTo
     hardwareOf plugLe powered leAlone leWithStatic settingsTold settingsChanged answerBehind fits lowEnergyAlone
 low-energy-alone-holds = refl

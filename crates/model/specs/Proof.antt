@@ -12,9 +12,14 @@ pub mod Places
 pub mod SettingsRows
 pub mod Rows
 pub mod Stays
+pub mod Tails
+pub mod Fields
+pub mod Numbers
+pub mod Fixed
 pub mod Load
 pub mod RoundTrip
 pub mod SavedAgain
+pub mod Moves
 pub mod Region
 pub mod WaitingOctets
 pub mod Long

@@ -15,7 +15,8 @@ use Rattle.model.specs.Tables.{open-tables}
 use Rattle.model.specs.Rules.{open-rules}
 use Rattle.model.specs.Immediate.{open-immediate}
 use Rattle.model.specs.Commands.{open-commands}
-use Rattle.model.specs.Image.{open-image, image, load}
+use Rattle.model.specs.Image.{open-image, image}
+use Rattle.model.specs.Reading.{open-reading, load}
 use Rattle.model.specs.Hub.{open-hub, Call, Outcome, Result, answerOf, call, clock, octetsOf, report, unplug}
 use Rattle.model.specs.Stream.{open-stream, HostCall, direct, stream, streamOut}
 use Rattle.model.specs.WellFormed.{open-wellformed}
@@ -171,7 +172,7 @@ rotations =
 
 -- E1'S EXAMPLES HOLD
 pub rotations-hold : allGiven rotations ≡ true
-unfolding open-octets open-advertising open-state open-reasons open-tables open-rules open-immediate open-commands open-image open-hub open-stream
+unfolding open-octets open-advertising open-state open-reasons open-tables open-rules open-immediate open-commands open-image open-reading open-hub open-stream
     open-wellformed open-layout open-meanings
     open-demand3 open-fairness to dualHardware plugDual powerOn gives allGiven send refusedWith answered leaves airing twoInstances add remove doneWith
     addedEvent removedEvent rotating poweringOn bothEnding toldOf told hubAfter airs loadedBack addSecond inTwoLumps fair rotations

@@ -19,6 +19,7 @@ use Rattle.model.specs.Rules.{open-rules}
 use Rattle.model.specs.Immediate.{open-immediate}
 use Rattle.model.specs.Commands.{open-commands}
 use Rattle.model.specs.Image.{open-image, image}
+use Rattle.model.specs.Reading.{open-reading}
 use Rattle.model.specs.Hub.{open-hub, Call, plug, report}
 use Rattle.model.specs.WellFormed.{open-wellformed, plainOk}
 use Rattle.model.specs.Layout.{open-layout}
@@ -147,7 +148,7 @@ staticAddresses =
 
 -- E2'S EXAMPLES HOLD
 pub static-addresses-hold : allGiven staticAddresses ≡ true
-unfolding open-octets open-advertising open-state open-reasons open-tables open-rules open-immediate open-commands open-image open-hub open-wellformed
+unfolding open-octets open-advertising open-state open-reasons open-tables open-rules open-immediate open-commands open-image open-reading open-hub open-wellformed
     open-layout open-meanings open-demand3 to dualHardware plugDual powerOn gives allGiven send refusedWith hubAfter answered leaves addressOf changed neighbours
     zerosBelow onesBelow longTermKey identityKey setTo answerTo loadLongTermKey loadIdentityKey plugBredr withRecord withStatic kept everyPlace takenThere refusedThere staticAddresses
 static-addresses-hold = refl

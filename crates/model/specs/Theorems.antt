@@ -3,28 +3,30 @@ use Prim.Native.Nat.{ℕ, suc, _/_, _%_, _^_, _≤_, _<_}
 use native.Mathlib.Omega.{arith}
 use mathlib.Core.Path.{_≡_, refl, sym, ap, _∙_}
 use mathlib.Core.Bool.{Bool, true, false}
-use mathlib.Core.List.{List, [], _∷_, map}
+use mathlib.Core.List.{[], _∷_, map}
 use mathlib.Core.Logic.{_↔_}
-use mathlib.Core.Option.{none, some}
+use mathlib.Core.Option.{Option, none, some}
 use lib.ListN.{length, getD, take, drop}
 use lib.Dec.{eqb, leb, ltb, lit≤}
 use Rattle.model.specs.Lengths as Lengths
-use Rattle.model.specs.Octets.{Octets, bytes, octet, open-octets, usedPart}
+use Rattle.model.specs.Octets.{Octets, allZero, bytes, octet, open-octets, usedPart}
 use Rattle.model.specs.Advertising.{open-advertising}
 use Rattle.model.specs.State.{Hub, PlainHub, Table, idle, open-state}
 use Rattle.model.specs.Reasons.{open-reasons}
 use Rattle.model.specs.Tables.{entries, holds, longTermKeys, open-tables, ruleAt}
 use Rattle.model.specs.LookUp.{keyLength, lookUp}
 use Rattle.model.specs.Commands.{Row, commandCodes, rows}
-use Rattle.model.specs.Image.{hasImage, image, load, open-image, reloadedHub}
-use Rattle.model.specs.Hub.{Call, Outcome, Result, answerOf, call, callPlain, clock, command, finished, keep, notInImage, octetsOf, plug, report, save}
+use Rattle.model.specs.Image.{One, Two, hasImage, image, imageOf, nameBack, namesClean, open-image, reloadedHub, taillessHub, versionOctet}
+use Rattle.model.specs.Reading.{acceptable, eitherVersion, judge, load}
+use Rattle.model.specs.Hub.{Call, Outcome, Result, answerOf, call, callPlain, clock, command, keep, octetsOf, plug, report, save}
 use Rattle.model.specs.Hub.{saveOut, stateOf, unplug, within}
 use Rattle.model.specs.WellFormed.{callWide, open-wellformed, plainOk, wellFormed}
 use Rattle.model.specs.Layout.{decode, encode, lineCleared}
 use Rattle.model.specs.Meanings.{badState, hubCommand, hubLoad, hubLookUp, hubName, hubOnAir, hubSave, hubStream, laidOut, loadMeaning}
 use Rattle.model.specs.Meanings.{loadedInto, toldLookUp}
 use Rattle.model.specs.Meanings.{meaning, stateOk}
-use Rattle.model.specs.Written.{LookUpAnswer, ReadAnswer, OneReply, Written, loadAnswer, roomOf}
+use Rattle.model.specs.Moves.{Moved, hubDowngrade, hubUpgrade, writes}
+use Rattle.model.specs.Written.{LookUpAnswer, MoveAnswer, ReadAnswer, OneReply, Written, loadAnswer, roomOf}
 use Rattle.model.specs.Demand3.{Demand3}
 use Rattle.model.specs.Cutting.{CuttingDoesNotMatter, LeftAside, LineMayBeCut, LumpTold}
 use Rattle.model.specs.Fairness.{Fairness, InTime}
@@ -35,7 +37,7 @@ use Rattle.model.specs.Proof.Feeding.{line-cut}
 use Rattle.model.specs.Proof.InTime.{fairness, in-time}
 use Rattle.model.specs.Proof.Keeps.{keeps-state, load-refused-same, load-state, refused-same, state-exact}
 use Rattle.model.specs.Proof.Line.{cutting, demand3}
-use Rattle.model.specs.Proof.Load.{load-has-image, load-ok}
+use Rattle.model.specs.Proof.Load.{Accepted, accepts, either-takes, load-ok, loaded-by, loads-by}
 use Rattle.model.specs.Proof.Long.{long-call}
 use Rattle.model.specs.Proof.LookUp.{first-matches, first-of-none, keyed, keyed-by-master, look-up-answered, looked-back, none-before-first}
 use Rattle.model.specs.Proof.LookUp.{walk-ends, walked-all, walked-found}
@@ -43,10 +45,12 @@ use Rattle.model.specs.Proof.Names.{name-answered, name-most, name-no-ze
 use Rattle.model.specs.Proof.OnAir.{on-air-answered, on-air-most, on-air-same}
 use Rattle.model.specs.Proof.OneLump.{left-aside, lump-keeps, lump-refused, lump-room, lump-told}
 use Rattle.model.specs.Proof.Room.{notSave, room-state}
-use Rattle.model.specs.Proof.RoundTrip.{image-most, load-image}
-use Rattle.model.specs.Proof.SavedAgain.{saved-again}
+use Rattle.model.specs.Proof.Moves.{accepted-answer, back-loads, back-there, clean-exactly, forth-loads, in-version, move-most, moves-told, refused-answer, said-two, there-back, upgraded, was-moved}
+use Rattle.model.specs.Proof.Tails.{name-through}
+use Rattle.model.specs.Proof.RoundTrip.{image-most, saved-accepted}
+use Rattle.model.specs.Proof.SavedAgain.{written-again}
 use Rattle.model.specs.Proof.Tests.{and-true, either}
-use Rattle.model.specs.Proof.Written.{load-written, one-reply, silent, state-written, to-eight}
+use Rattle.model.specs.Proof.Written.{load-written, one-reply, silent, state-written, to-six}
 
 -- DEMAND 3, whole: for any image that load takes into any buffer and any list of calls and lumps
 pub demand-3 : Demand3
@@ -74,7 +78,7 @@ calls-keep = keeps-state
 pub load-makes : (buffer image : Octets) → bytes image ≡ true → hubLoad buffer image .answer ≡ 0 → stateOk (hubLoad buffer image .state) ≡ true
 load-makes = load-state
 
--- A call answered 2 to 8 changes nothing.
+-- A call answered 2 to 6 changes nothing.
 pub refused-changes-nothing : (s : Octets) (c : Call) → leb 2 (meaning s c .answer) ≡ true → meaning s c .state ≡ s
 refused-changes-nothing = refused-same
 
@@ -84,81 +88,81 @@ refused-load-changes-nothing = load-refused-same
 
 -- The image -----------------------------------------------------------------------------------------------------------------------------------
 
--- save of a hub that has an image, with room for the largest one
-save-call : (h : Hub) (room : ℕ) → ltb room Lengths.largestImage ≡ false → hasImage (h .plain .controllers) ≡ true
-    → call h (save room) ≡ record { answer = 0; octets = image (h .plain); state = h }
+-- save of a hub, with room for the largest image
+save-call : (h : Hub) (room : ℕ) → ltb room Lengths.largestImage ≡ false → call h (save room) ≡ record { answer = 0; octets = image (h .plain); state = h }
 unfolding call keep callPlain within saveOut answerOf octetsOf stateOf
-save-call h room r i = rw (r, within, i, saveOut)
+save-call h room r = rw (r, within)
 
--- save on the state of a well-formed hub that has an image, with that room
-save-is : (h : Hub) (room : ℕ) → wellFormed h ≡ true → ltb room Lengths.largestImage ≡ false → hasImage (h .plain .controllers) ≡ true
+-- save on the state of a well-formed hub, with that room
+save-is : (h : Hub) (room : ℕ) → wellFormed h ≡ true → ltb room Lengths.largestImage ≡ false
     → hubSave (encode h) room ≡ record { answer = 0; octets = image (h .plain); state = encode h }
 unfolding hubSave laidOut
-save-is h room e r i = meaning-is h (save room) e ∙ ap laidOut (save-call h room r i)
+save-is h room e r = meaning-is h (save room) e ∙ ap laidOut (save-call h room r)
 
--- A save of a well-formed state, with room, is answered 0 where every controller that supports BR/EDR has it on, else 8 (02, E5).
-pub saves-answered : (s : Octets) (room : ℕ) → stateOk s ≡ true → ltb room Lengths.largestImage ≡ false
-    → hubSave s room .answer ≡ elim (hasImage (decode s .plain .controllers)) [ true ↦ 0 | false ↦ 8 ]
-unfolding hubSave meaning laidOut call keep callPlain within saveOut answerOf
-saves-answered s room e r = rw (e, meaning, r, within) (go (hasImage (decode s .plain .controllers)))
-  where
-    go : (b : Bool) → answerOf (elim b [ true ↦ finished (image (decode s .plain)) (decode s .plain) | false ↦ notInImage ])
-        ≡ elim b [ true ↦ 0 | false ↦ 8 ]
-    go true = refl
-    go false = refl
+-- A save of a well-formed state, with room, is answered 0 (02, E7).
+pub saves-answered : (s : Octets) (room : ℕ) → stateOk s ≡ true → ltb room Lengths.largestImage ≡ false → hubSave s room .answer ≡ 0
+unfolding hubSave meaning laidOut
+saves-answered s room e r = rw (e, meaning, save-call (decode s) room r)
 
--- An accepted image is saved again octet for octet.
-pub accepted-image-saved-again : (buffer o : Octets) (room : ℕ) → bytes o ≡ true → hubLoad buffer o .answer ≡ 0 → ltb room Lengths.largestImage ≡ false
+-- save after a load that took the image
+save-loaded : (buffer o : Octets) (p : PlainHub) (room : ℕ) → plainOk p ≡ true → hubLoad buffer o .state ≡ encode (idle p)
+    → ltb room Lengths.largestImage ≡ false
+    → hubSave (hubLoad buffer o .state) room ≡ record { answer = 0; octets = imageOf Two p; state = hubLoad buffer o .state }
+unfolding idle image
+save-loaded buffer o p room k s r = rw (s, save-is (idle p) room (idle-ok p k) r)
+
+-- An accepted image of version 2 is saved again octet for octet.
+pub accepted-image-saved-again : (buffer o : Octets) (room : ℕ) → bytes o ≡ true → octet o 4 ≡ 2 → hubLoad buffer o .answer ≡ 0
+    → ltb room Lengths.largestImage ≡ false
     → hubSave (hubLoad buffer o .state) room ≡ record { answer = 0; octets = o; state = hubLoad buffer o .state }
-unfolding idle
-accepted-image-saved-again buffer o room b e r =
+unfolding versionOctet
+accepted-image-saved-again buffer o room b v e r =
     let t = taken buffer o e in
-    let k = load-ok o (t .hub) b (t .loads) in
-    rw (t .state, save-is (idle (t .hub)) room (idle-ok (t .hub) k) r (load-has-image o (t .hub) (t .loads)), saved-again o (t .hub) b (t .loads))
+    let a = loaded-by o (t .hub) (t .loads) in
+    save-loaded buffer o (t .hub) room (load-ok o (t .hub) b (t .loads)) (t .state) r
+    ∙ rw (written-again Two o (t .hub) b (in-version (a .0) Two o (t .hub) v (a .1)))
 
 -- load of an acceptable image
-load-is : (buffer o : Octets) (p : PlainHub) → eqb (length buffer) Lengths.state ≡ true → load o ≡ some p
+load-is : (buffer o : Octets) (p : PlainHub) → eqb (length buffer) Lengths.state ≡ true → judge eitherVersion o ≡ acceptable p
     → hubLoad buffer o ≡ record { answer = 0; octets = []; state = encode (idle p) }
 unfolding hubLoad loadMeaning loadedInto
 load-is buffer o p n l = rw (n, loadMeaning, l)
 
--- what is known where a save is answered 0: a state that is well formed, the room, and no supported BR/EDR off
+-- what is known where a save is answered 0: a state that is well formed, and the room
 record Saved (s : Octets) (room : ℕ) : Type 0 where
   state : stateOk s ≡ true
   roomy : ltb room Lengths.largestImage ≡ false
-  held : hasImage (decode s .plain .controllers) ≡ true
 
--- a save that is answered 0 found them all
+-- a save that is answered 0 found both
 saved : (s : Octets) (room : ℕ) → hubSave s room .answer ≡ 0 → Saved s room
-unfolding hubSave meaning laidOut badState call keep callPlain within saveOut answerOf
+unfolding hubSave meaning laidOut badState call keep callPlain within answerOf
 saved s room =
     either {A = Result Octets} (λ r. r .answer ≡ 0 → Saved s room) (stateOk s)
     (λ e. either {A = Outcome} (λ o. answerOf o ≡ 0 → Saved s room) (ltb room Lengths.largestImage) (λ _ z. absurd (omega arith))
-    (λ r. either {A = Outcome} (λ o. answerOf o ≡ 0 → Saved s room) (hasImage (decode s .plain .controllers))
-    (λ i _. record { state = e; roomy = r; held = i }) (λ _ z. absurd (omega arith))))
+    (λ r _. record { state = e; roomy = r }))
     (λ _ z. absurd (omega arith))
 
 -- A saved image loads to the state that `reloadedHub` says: power and discoverable off, no timer, clock 0, nothing open and nothing waiting, the records in
--- the lowest slots, no advertising.
+-- the lowest slots, no advertising, zeros behind the used part of each name.
 pub saved-image-loads : (s buffer : Octets) (room : ℕ) → hubSave s room .answer ≡ 0 → eqb (length buffer) Lengths.state ≡ true
-    → hubLoad buffer (hubSave s room .octets) ≡ record { answer = 0; octets = []; state = encode (idle (reloadedHub (decode s .plain))) }
-unfolding wellFormed
+    → hubLoad buffer (hubSave s room .octets) ≡ record { answer = 0; octets = []; state = encode (idle (reloadedHub Two (decode s .plain))) }
+unfolding wellFormed image
 saved-image-loads s buffer room a n =
     let t = saved s room a in
     let e = t .state in
+    let p : PlainHub = decode s .plain in
     let w = state-well s e in
-    let i : hubSave s room .octets ≡ image (decode s .plain) = ap (λ (x : Octets). hubSave x room .octets) (state-back s e)
-    ∙ ap (λ (x : Result Octets). x .octets) (save-is (decode s) room w (t .roomy) (t .held)) in
-    rw i (load-is buffer (image (decode s .plain)) (reloadedHub (decode s .plain)) n
-    (load-image (decode s .plain) (and-true (plainOk (decode s .plain)) _ w .0) (t .held)))
+    let i : hubSave s room .octets ≡ imageOf Two p = ap (λ (x : Octets). hubSave x room .octets) (state-back s e)
+    ∙ ap (λ (x : Result Octets). x .octets) (save-is (decode s) room w (t .roomy)) in
+    let k = saved-accepted Two p (and-true (plainOk p) _ w .0) (said-two (p .controllers)) in
+    rw i (load-is buffer (imageOf Two p) (reloadedHub Two p) n (accepts eitherVersion Two (imageOf Two p) (reloadedHub Two p) (either-takes Two) k))
 
 -- save of a well-formed hub writes at most 16,014 octets
 save-length : (h : Hub) (room : ℕ) → wellFormed h ≡ true → length (call h (save room) .octets) ≤ Lengths.largestImage
-unfolding call keep callPlain within saveOut octetsOf wellFormed
+unfolding call keep callPlain within saveOut octetsOf wellFormed image
 save-length h room e =
     either {A = Outcome} (λ o. length (octetsOf o) ≤ Lengths.largestImage) (ltb room Lengths.largestImage) (λ _. lit≤ tt)
-    (λ _. either {A = Outcome} (λ o. length (octetsOf o) ≤ Lengths.largestImage) (hasImage (h .plain .controllers))
-    (λ _. image-most (h .plain) (and-true (plainOk (h .plain)) _ e .0)) (λ _. lit≤ tt))
+    (λ _. image-most Two (h .plain) (and-true (plainOk (h .plain)) _ e .0))
 
 -- No image is longer than 16,014 octets, whatever is lent and whatever is loaded.
 pub no-image-longer : (s : Octets) (room : ℕ) → length (hubSave s room .octets) ≤ Lengths.largestImage
@@ -171,11 +175,6 @@ full-valid : plainOk fullHub ≡ true
 unfolding open-octets open-advertising open-state open-reasons open-tables open-image open-wellformed dualHardware records fullTable fullController fullHub
 full-valid = refl
 
--- it has an image
-full-image : hasImage (fullHub .controllers) ≡ true
-unfolding open-octets open-state open-image dualHardware fullController fullHub
-full-image = refl
-
 -- its image has 16,014 octets
 full-length : length (image fullHub) ≡ Lengths.largestImage
 unfolding open-octets open-advertising open-state open-reasons open-tables open-image dualHardware records fullTable fullController fullHub
@@ -187,7 +186,118 @@ pub one-image-that-long : (stateOk (encode (idle fullHub)) ≡ true)
 unfolding idle
 one-image-that-long =
     let w = idle-ok fullHub full-valid in
-    (encode-ok (idle fullHub) w, ap (λ (x : Result Octets). length (x .octets)) (save-is (idle fullHub) Lengths.largestImage w refl full-image) ∙ full-length)
+    (encode-ok (idle fullHub) w, ap (λ (x : Result Octets). length (x .octets)) (save-is (idle fullHub) Lengths.largestImage w refl) ∙ full-length)
+
+-- The moves between the versions (02, E7) ----------------------------------------------------------------------------------------------------------
+
+-- what load gives of an image of version 1
+loaded-one : (o : Octets) (p : PlainHub) → load o ≡ some p → octet o 4 ≡ 1 → Accepted One o p
+unfolding versionOctet
+loaded-one o p l v = let a = loaded-by o p l in in-version (a .0) One o p v (a .1)
+
+-- The move to version 2 of an image that load takes is save after load.
+pub upgrade-is-load-and-save : (buffer o : Octets) (room : ℕ) → bytes o ≡ true → hubLoad buffer o .answer ≡ 0 → octet o 4 ≡ 1
+    → ltb room Lengths.largestImage ≡ false
+    → hubUpgrade o room ≡ record { answer = 0; octets = hubSave (hubLoad buffer o .state) room .octets }
+upgrade-is-load-and-save buffer o room b e v r =
+    let t = taken buffer o e in
+    let s = save-loaded buffer o (t .hub) room (load-ok o (t .hub) b (t .loads)) (t .state) r in
+    upgraded o (t .hub) room (loaded-one o (t .hub) (t .loads) v) r ∙ rw s
+
+-- An image of version 1 moved to version 2 and back. It loads to a hub p and is its image; what comes back is the image of p with zeros behind the used
+-- part of each name, and all else the same; and that is the same image exactly if every name of p has only zeros there.
+pub upgrade-and-back : (o : Octets) (room : ℕ) → bytes o ≡ true → hubUpgrade o room .answer ≡ 0
+    → (p : PlainHub) × (load o ≡ some p) × (o ≡ imageOf One p)
+    × (hubDowngrade (hubUpgrade o room .octets) room ≡ record { answer = 0; octets = imageOf One (taillessHub p) })
+    × ((imageOf One (taillessHub p) ≡ o) ↔ (namesClean (p .controllers) ≡ true))
+unfolding hubUpgrade
+upgrade-and-back o room b e =
+    let m = was-moved One Two o room e in (
+      m .hub,
+      loads-by One o (m .hub) (m .from),
+      sym (written-again One o (m .hub) b (m .from)),
+      rw (m .octets) (there-back o (m .hub) room b (m .from) (m .enough)),
+      clean-exactly o (m .hub) b (m .from),
+    )
+
+-- An image of version 2 moved to version 1 and back is the same.
+pub downgrade-and-back : (o : Octets) (room : ℕ) → bytes o ≡ true → hubDowngrade o room .answer ≡ 0
+    → hubUpgrade (hubDowngrade o room .octets) room ≡ record { answer = 0; octets = o }
+unfolding hubDowngrade
+downgrade-and-back o room b e =
+    let m = was-moved Two One o room e in rw (m .octets) (back-there o (m .hub) room b (m .from) (m .tells) (m .enough))
+
+-- An image of version 1 whose names are clean, loaded, saved and moved back, is the same.
+pub clean-image-comes-back : (buffer o : Octets) (p : PlainHub) (room : ℕ) → bytes o ≡ true → eqb (length buffer) Lengths.state ≡ true → octet o 4 ≡ 1
+    → load o ≡ some p → namesClean (p .controllers) ≡ true → ltb room Lengths.largestImage ≡ false
+    → hubDowngrade (hubSave (hubLoad buffer o .state) room .octets) room ≡ record { answer = 0; octets = o }
+clean-image-comes-back buffer o p room b n v l c r =
+    let a = loaded-one o p l v in
+    let q = load-is buffer o p n (accepts eitherVersion One o p (either-takes One) a) in
+    let s = save-loaded buffer o p room (load-ok o p b l) (ap (λ (x : Result Octets). x .state) q) r in
+    rw s (there-back o p room b a r ∙ rw (clean-exactly o p b a .1 c))
+
+-- With room, an image that load takes and that has version 2 is moved back exactly if every controller that supports BR/EDR has it on; else 8.
+pub downgrades-answered : (o : Octets) (p : PlainHub) (room : ℕ) → octet o 4 ≡ 2 → load o ≡ some p → ltb room Lengths.largestImage ≡ false
+    → hubDowngrade o room .answer ≡ elim (hasImage One (p .controllers)) [ true ↦ 0 | false ↦ 8 ]
+unfolding hubDowngrade versionOctet
+downgrades-answered o p room v l r = let a = loaded-by o p l in accepted-answer Two One o p room (in-version (a .0) Two o p v (a .1)) r
+
+-- One that load takes and that has version 1 is moved to version 2, always.
+pub upgrades-answered : (o : Octets) (p : PlainHub) (room : ℕ) → octet o 4 ≡ 1 → load o ≡ some p → ltb room Lengths.largestImage ≡ false
+    → hubUpgrade o room .answer ≡ 0
+unfolding writes
+upgrades-answered o p room v l r = ap (λ (m : Moved). m .answer) (upgraded o p room (loaded-one o p l v) r)
+
+-- With room, an image that load does not take is answered 7 by both moves.
+pub bad-image-not-moved : (o : Octets) (room : ℕ) → load o ≡ none → ltb room Lengths.largestImage ≡ false
+    → (hubUpgrade o room .answer ≡ 7) × (hubDowngrade o room .answer ≡ 7)
+unfolding hubUpgrade hubDowngrade
+bad-image-not-moved o room n r = (
+  refused-answer One Two o room r (λ p a. none-some p (sym n ∙ loads-by One o p a)),
+  refused-answer Two One o room r (λ p a. none-some p (sym n ∙ loads-by Two o p a)),
+)
+  where
+    none-some : (p : PlainHub) → _≡_ {A = Option PlainHub} none (some p) → ⊥
+    none-some p e = let z : _≡_ {A = ℕ} 0 1 = cc in absurd (omega arith)
+
+-- One of another version than the one that is moved from is answered 7.
+pub other-version-not-moved : (o : Octets) (room : ℕ) → ltb room Lengths.largestImage ≡ false
+    → ((octet o 4 ≡ 1 → ⊥) → hubUpgrade o room .answer ≡ 7) × ((octet o 4 ≡ 2 → ⊥) → hubDowngrade o room .answer ≡ 7)
+unfolding hubUpgrade hubDowngrade versionOctet
+other-version-not-moved o room r =
+    (λ n. refused-answer One Two o room r (λ p a. n (a .version)), λ n. refused-answer Two One o room r (λ p a. n (a .version)))
+
+-- An image that was moved back loads to what it loaded to before.
+pub downgraded-loads : (o : Octets) (room : ℕ) → bytes o ≡ true → hubDowngrade o room .answer ≡ 0 → load (hubDowngrade o room .octets) ≡ load o
+unfolding hubDowngrade
+downgraded-loads o room b e =
+    let m = was-moved Two One o room e in rw (m .octets) (back-loads o (m .hub) b (m .from) (m .tells) ∙ sym (loads-by Two o (m .hub) (m .from)))
+
+-- One that was moved to version 2 loads to the same, with zeros behind the used part of each name.
+pub upgraded-loads : (o : Octets) (p : PlainHub) (room : ℕ) → bytes o ≡ true → hubUpgrade o room .answer ≡ 0 → load o ≡ some p
+    → load (hubUpgrade o room .octets) ≡ some (taillessHub p)
+unfolding hubUpgrade
+upgraded-loads o p room b e l =
+    let m = was-moved One Two o room e in
+    let q : m .hub ≡ p = cc (sym (loads-by One o (m .hub) (m .from)) ∙ l) in
+    rw (m .octets, ← q) (forth-loads o (m .hub) b (m .from))
+
+-- A name that went through version 2 is as long as it was, the same up to its first zero, and zero from there on.
+pub only-tails-lost : (room : ℕ) (n : Octets) → length n ≡ room → (length (nameBack Two room n) ≡ room)
+    × (take (length (usedPart n)) (nameBack Two room n) ≡ take (length (usedPart n)) n) × (allZero (drop (length (usedPart n)) (nameBack Two room n)) ≡ true)
+only-tails-lost = name-through
+
+-- A move to version 2 is answered 0, 4 or 7, one back to version 1 also 8, and only with 0 anything is written.
+pub moves-answered : (o : Octets) (room : ℕ) → MoveAnswer false (hubUpgrade o room .answer) (hubUpgrade o room .octets)
+    × MoveAnswer true (hubDowngrade o room .answer) (hubDowngrade o room .octets)
+moves-answered = moves-told
+
+-- No move writes more than 16,014 octets.
+pub no-move-longer : (o : Octets) (room : ℕ) → bytes o ≡ true
+    → (length (hubUpgrade o room .octets) ≤ Lengths.largestImage) × (length (hubDowngrade o room .octets) ≤ Lengths.largestImage)
+unfolding hubUpgrade hubDowngrade
+no-move-longer o room b = (move-most One Two o room b, move-most Two One o room b)
 
 -- Commands -----------------------------------------------------------------------------------------------------------------------------------
 
@@ -202,7 +312,7 @@ commands-listed = refl
 pub answer-says-what-is-written : (s : Octets) (c : Call) → Written c (meaning s c .answer) (meaning s c .octets)
 answer-says-what-is-written = state-written
 
--- A call answered 1 or 3 to 8 writes nothing.
+-- A call answered 1 or 3 to 6 writes nothing.
 pub silent-answers : (s : Octets) (c : Call) → (meaning s c .answer ≡ 0 → ⊥) → (meaning s c .answer ≡ 2 → ⊥) → meaning s c .octets ≡ []
 silent-answers s c = silent c _ _ (state-written s c)
 
@@ -210,9 +320,9 @@ silent-answers s c = silent c _ _ (state-written s c)
 pub refused-writes-one-reply : (s : Octets) (c : Call) → meaning s c .answer ≡ 2 → OneReply c (meaning s c .octets)
 refused-writes-one-reply s c = one-reply c _ _ (state-written s c)
 
--- Every answer is one of 0 to 8.
-pub answers-are-nine : (s : Octets) (c : Call) → meaning s c .answer ≤ 8
-answers-are-nine s c = to-eight c _ _ (state-written s c)
+-- Every answer is one of 0 to 6.
+pub answers-are-seven : (s : Octets) (c : Call) → meaning s c .answer ≤ 6
+answers-are-seven s c = to-six c _ _ (state-written s c)
 
 -- Load answers 0, 5 or 7 and writes nothing but the state.
 pub load-writes-nothing : (buffer image : Octets) → (loadAnswer (hubLoad buffer image .answer) ≡ true) × (hubLoad buffer image .octets ≡ [])

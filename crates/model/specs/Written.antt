@@ -88,8 +88,6 @@ pub data Written : Call → ℕ → Octets → Type 0 where
   smallBuffer : {c : Call} → Written c (numberOf SmallBuffer) []
   badState : {c : Call} → Written c (numberOf BadState) []
   badArgument : {c : Call} → hasArgument c ≡ true → Written c (numberOf BadArgument) []
-  -- 8: nothing, and only save
-  notInImage : {room : ℕ} → Written (save room) (numberOf NotInImage) []
 
 -- what is answered to a host that reads beside the calls, and what is written: what it asked for, or nothing
 pub data ReadAnswer : ℕ → Octets → Type 0 where
@@ -103,6 +101,13 @@ pub data LookUpAnswer : ℕ → ℕ → Type 0 where
   told : {slot walked : ℕ} → slot ≤ 32 → walked ≤ 32 → LookUpAnswer (numberOf (Done 0)) (slot + 256 * walked)
   badState : LookUpAnswer (numberOf BadState) 0
   wrong : LookUpAnswer (numberOf BadArgument) 0
+
+-- what a move answers, and what is written: an image, or nothing; 8 only where it goes back to version 1
+pub data MoveAnswer : (back : Bool) → ℕ → Octets → Type 0 where
+  moved : {back : Bool} {o : Octets} → MoveAnswer back (numberOf (Done (length o))) o
+  noRoom : {back : Bool} → MoveAnswer back (numberOf SmallBuffer) []
+  badImage : {back : Bool} → MoveAnswer back (numberOf BadImage) []
+  notInImage : MoveAnswer true (numberOf NotInImage) []
 
 -- what load answers: done, a state buffer of another length, or an image that it does not take
 unfoldable pub loadAnswer : ℕ → Bool

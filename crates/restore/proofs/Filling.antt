@@ -1,28 +1,24 @@
--- The state while it is filled from an image: what a reader of the model found, and what is left to be read and stored.
+-- The state while it is filled from an image: what was found of its tables, and what is left to be read and stored.
 use mathlib.Core.Path.{_≡_, refl, ap, sym, _∙_}
 use Prim.Native.Nat.{ℕ, zero, suc, _+_, _*_, _≤_, _<_}
 use native.Mathlib.Omega.{arith}
-use mathlib.Core.Bool.{true, _&&_}
+use mathlib.Core.Bool.{true}
 use mathlib.Core.List.{List, [], _∷_}
 use mathlib.Core.Option.{Option, none, some}
 use lib.ListN.{length, getD, drop, drop-of-length-le}
 use lib.Seq.{drop-cons, drop-drop, set-getD, set-set}
-use lib.Dec.{leb, ltb}
-use Rattle.model.specs.declared.Hardware.{Hardware}
 use Rattle.model.specs.Octets.{Octets, bytes}
 use Rattle.model.specs.State.{Controller, Hub, Table, withController, withHost, withTable}
-use Rattle.model.specs.Tables.{TableRule, chop, loaded, recordsOk, supportOk, tableRules, uuidRule}
-use Rattle.model.specs.Image.{Parsed, parseTables, tableThen}
+use Rattle.model.specs.Tables.{chop, loaded, ruleAt, tableRules, uuidRule}
+use Rattle.model.specs.Reading.{nothingDropped, walkTables}
 use Rattle.model.specs.Hub.{underWay}
 use Rattle.model.specs.WellFormed.{controllerOk, openOk, tableOk, wellFormed}
 use Rattle.model.specs.Layout.{decode, encode, region}
 use Rattle.model.specs.Proof.Decode.{decode-encode}
 use Rattle.model.specs.Proof.Demand3.{state-back, state-well}
-use Rattle.model.specs.Proof.Load.{le-of, tested, then}
-use Rattle.model.specs.Proof.Tables.{length-chop}
-use Rattle.model.specs.Tables.{ruleAt}
-use Rattle.model.specs.Proof.Tables.{bytes-chop, bytes-drop, loaded-ok}
-use Rattle.model.specs.Proof.Tests.{and-true, no-way}
+use Rattle.model.specs.Proof.Parts.{table-changed}
+use Rattle.model.specs.Proof.Tables.{bytes-drop}
+use Rattle.model.specs.Proof.Tests.{no-way}
 use Rattle.octets.specs.Parts.{writeAt}
 use Rattle.layout.specs.Places.{Ready, controllerOf, openAt, putController, tablePlace}
 use Rattle.layout.proofs.Reading.{present-slot}
@@ -30,9 +26,9 @@ use Rattle.layout.proofs.Change.{controller-fine}
 use Rattle.layout.proofs.Lens.{shaped}
 use Rattle.layout.proofs.Kept.{encode-controller, encode-open, encode-ready, put-well, same-slot}
 use Rattle.layout.proofs.Tables.{table-written}
-use Rattle.model.specs.Proof.Parts.{table-changed}
-use Rattle.restore.specs.Filling.{withTables}
-use Rattle.restore.specs.Checking.{found}
+use Rattle.reading.specs.Contents.{Parsed, clean, cleanBy, tablesIn}
+use Rattle.restore.specs.Filling.{found, withTables}
+use Rattle.reading.proofs.Steps.{OneTable, one-table}
 
 -- 1. What a reader found ------------------------------------------------------------------------------------------------------------------------
 
@@ -109,59 +105,14 @@ module _ (h : Hub) (i : ℕ) (s : Octets) (c : Controller) (x : Holds h i s c) w
       let w = table-written s i held-ready k l v (rw held-controller n) in
       held-put t (withHost c (withTable (c .host) k v)) (table-changed c k v (x .fine) n) (e ∙ (rw held-controller at w))
 
--- 3. One table of an image ---------------------------------------------------------------------------------------------------------------------------
-
--- what a reader of tables found begins with the table of the first rule
-pub record OneTable (f : Hardware) (u : TableRule) (us : List TableRule) (o : Octets) (m : Parsed (List Table)) : Type 0 where
-  pub count : ℕ
-  pub body : Octets
-  pub rest : Parsed (List Table)
-  pub octets : o ≡ count ∷ body
-  pub few : count ≤ 32
-  pub fits : u .size * count ≤ length body
-  pub good : tableOk u f (loaded (chop (u .size) count body)) ≡ true
-  pub others : parseTables f us (drop (u .size * count) body) ≡ some rest
-  pub tables : loaded (chop (u .size) count body) ∷ rest .value ≡ m .value
-  pub behind : rest .behind ≡ m .behind
-
--- the first table, read
-pub one-table : (f : Hardware) (u : TableRule) (us : List TableRule) (o : Octets) (m : Parsed (List Table)) → bytes o ≡ true
-    → parseTables f (u ∷ us) o ≡ some m → OneTable f u us o m
-unfolding parseTables tableThen bytes
-one-table f u us [] m w e = let z : _≡_ {A = ℕ} 0 1 = cc in absurd (omega arith)
-one-table f u us (n ∷ body) m w e =
-    let rs : List Octets = chop (u .size) n body in
-    let more : Option (Parsed (List Table)) = parseTables f us (drop (u .size * n) body) in
-    let a = tested (leb n 32 && (leb (u .size * n) (length body) && (recordsOk u rs && (supportOk u f rs)))) _ m e in
-    let b = then more (λ k. some (record { value = loaded rs ∷ k .value; behind = k .behind })) m (a .1) in
-    let p : record { value = loaded rs ∷ b .0 .value; behind = b .0 .behind } ≡ m = cc in
-    let c1 = and-true (leb n 32) _ (a .0) in
-    let c3 = and-true (leb (u .size * n) (length body)) _ (c1 .1) in
-    let c2 = and-true (recordsOk u rs) _ (c3 .1) in
-    let few : n ≤ 32 = le-of n 32 (c1 .0) in
-    let le : length rs ≤ 32 = rw (length-chop (u .size) n body) few in
-    let wb : bytes body ≡ true = and-true (ltb n 256) _ w .1 in
-    record {
-      count = n;
-      body = body;
-      rest = b .0;
-      octets = refl;
-      few = few;
-      fits = le-of (u .size * n) (length body) (c3 .0);
-      good = loaded-ok u f rs le (bytes-chop (u .size) n body wb) (c2 .0) (c2 .1);
-      others = b .1;
-      tables = ap (λ (q : Parsed (List Table)). q .value) p;
-      behind = ap (λ (q : Parsed (List Table)). q .behind) p;
-    }
-
--- 4. The tables, one after the other -----------------------------------------------------------------------------------------------------------------------
+-- 3. The tables, one after the other -----------------------------------------------------------------------------------------------------------------------
 
 -- tables k and on of a controller are still to be read from place p of the image; what comes of it is the controller d, and e is left behind it
 pub record FillingTables (h : Hub) (i : ℕ) (image : Octets) (d : Controller) (e : Octets) (s : Octets) (k p : ℕ) : Type 0 where
   pub controller : Controller
   pub left : Parsed (List Table)
   pub held : Holds h i s controller
-  pub parsed : parseTables (controller .radio .hardware) (drop k tableRules) (drop p image) ≡ some left
+  pub parsed : tablesIn (controller .radio .hardware) (drop k tableRules) (drop p image) ≡ some left
   pub whole : withTables controller k (left .value) ≡ d
   pub behind : left .behind ≡ e
 
@@ -210,21 +161,21 @@ module _ (h : Hub) (i : ℕ) (image : Octets) (d : Controller) (e : Octets) (w :
 -- all six tables are read
 pub tables-done : (h : Hub) (i : ℕ) (image : Octets) (d : Controller) (e s : Octets) (k p : ℕ) → 6 ≤ k → FillingTables h i image d e s k p
     → (s ≡ encode (putController h i d)) × (drop p image ≡ e)
-unfolding tableRules parseTables withTables
+unfolding tableRules tablesIn clean cleanBy walkTables nothingDropped withTables
 tables-done h i image d e s k p l x =
     let n : drop k tableRules ≡ [] = drop-of-length-le tableRules {i = k} l in
-    let a : parseTables (x .controller .radio .hardware) [] (drop p image) ≡ some (x .left) = rw n at (x .parsed) in
+    let a : tablesIn (x .controller .radio .hardware) [] (drop p image) ≡ some (x .left) = rw n at (x .parsed) in
     let m : record { value = []; behind = drop p image } ≡ x .left = cc in
     let v : [] ≡ x .left .value = ap (λ (q : Parsed (List Table)). q .value) m in
     let b : drop p image ≡ x .left .behind = ap (λ (q : Parsed (List Table)). q .behind) m in
     let c : x .controller ≡ d = rw (← v) at (x .whole) in
     (x .held .state ∙ rw c, b ∙ x .behind)
 
--- 5. All six tables of the controller at an index -----------------------------------------------------------------------------------------------------------
+-- 4. All six tables of the controller at an index -----------------------------------------------------------------------------------------------------------
 
 -- from the state s₀ and place `at` of the image, tables k and on are left at place p, in the state s
 pub record TablesLeft (s₀ : Octets) (i : ℕ) (image : Octets) (at : ℕ) (s : Octets) (k p : ℕ) : Type 0 where
-  pub known : (m : Parsed (List Table)) → parseTables (controllerOf s₀ i .radio .hardware) tableRules (drop at image) ≡ some m
+  pub known : (m : Parsed (List Table)) → tablesIn (controllerOf s₀ i .radio .hardware) tableRules (drop at image) ≡ some m
       → FillingTables (decode s₀) i image (withTables (controllerOf s₀ i) 0 (m .value)) (m .behind) s k p
 
 -- the controller that stands at a present index where nothing is under way
@@ -244,12 +195,12 @@ tables-first s i image at r o =
     record { known = λ m e. record { controller = controllerOf s i; left = m; held = held-now s i r o; parsed = e; whole = refl; behind = refl } }
 
 module _ (s₀ : Octets) (i : ℕ) (image : Octets) (at : ℕ) (w : bytes image ≡ true)
-    (a : found (parseTables (controllerOf s₀ i .radio .hardware) tableRules (drop at image)) ≡ true) where
+    (a : found (tablesIn (controllerOf s₀ i .radio .hardware) tableRules (drop at image)) ≡ true) where
   -- the next table lies in the image
   pub tables-room : (s : Octets) (k p : ℕ) → k < 6 → TablesLeft s₀ i image at s k p → (p < length image) × (getD image p 0 ≤ 32)
       × (p + 1 + ruleAt k .size * getD image p 0 ≤ length image)
   tables-room s k p l x =
-      let m = found-some (parseTables (controllerOf s₀ i .radio .hardware) tableRules (drop at image)) a in
+      let m = found-some (tablesIn (controllerOf s₀ i .radio .hardware) tableRules (drop at image)) a in
       table-room (decode s₀) i image (withTables (controllerOf s₀ i) 0 (m .0 .value)) (m .0 .behind) w s k p l (x .known (m .0) (m .1))
 
   -- a turn
@@ -266,6 +217,6 @@ module _ (s₀ : Octets) (i : ℕ) (image : Octets) (at : ℕ) (w : bytes image 
 
 -- at the end the state has them all
 pub tables-last : (s₀ : Octets) (i : ℕ) (image : Octets) (at : ℕ) (s : Octets) (k p : ℕ) → 6 ≤ k → TablesLeft s₀ i image at s k p
-    → (m : Parsed (List Table)) → parseTables (controllerOf s₀ i .radio .hardware) tableRules (drop at image) ≡ some m
+    → (m : Parsed (List Table)) → tablesIn (controllerOf s₀ i .radio .hardware) tableRules (drop at image) ≡ some m
     → (s ≡ encode (putController (decode s₀) i (withTables (controllerOf s₀ i) 0 (m .value)))) × (drop p image ≡ m .behind)
 tables-last s₀ i image at s k p l x m e = tables-done (decode s₀) i image (withTables (controllerOf s₀ i) 0 (m .value)) (m .behind) s k p l (x .known m e)

@@ -1,5 +1,5 @@
+pub mod Names
 pub mod Filling
 pub mod Controllers
 pub mod Loading
-pub mod Checking
 pub mod Accepting

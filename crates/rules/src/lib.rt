@@ -7,7 +7,7 @@ ghost use Prim.Native.Nat.{_+_, _≤_};
 ghost use lib.ListN.{length};
 ghost use Rattle.model.specs.State as State;
 ghost use Rattle.model.specs.Hub as Hub;
-ghost use Rattle.model.specs.Image.{bredrAsSupported, radioOk};
+ghost use Rattle.model.specs.Image.{bredrAsSupported, flagWord, radioOk, staticFits, switchesOk};
 ghost use Rattle.model.specs.WellFormed as WellFormed;
 ghost use Rattle.model.specs.Rules.{setPowered, setDiscoverable, setConnectable, setLowEnergy, setBredr, setStaticAddress};
 ghost use Rattle.octets.specs.Parts.{part};
@@ -340,26 +340,50 @@ pub fn hardware_ok(f: Hardware) -> bool
     false
 }
 
-// Whether hardware and static address are valid, BR/EDR is on only where it is supported, and it or Low Energy is on; where Low Energy is not supported it is
-// off, with no static address.
+// Whether BR/EDR and Low Energy may be so: each on only where it is supported, and one of them on.
+pub fn switches_ok(f: Hardware, bredr: bool, lowEnergy: bool) -> bool
+    ensures { λ r. ⌜ r ≡ switchesOk f bredr lowEnergy ⌝ }
+{
+    if either(!bredr, bredr_supported(f)) {
+        if either(bredr, lowEnergy) {
+            return either(le_supported(f), !lowEnergy);
+        }
+        return false;
+    }
+    false
+}
+
+// Whether a controller may have this static address: one only where Low Energy is supported, and then a static random one.
+pub fn static_fits(f: Hardware, a: &[u8]) -> bool
+    requires { ⌜ 6 ≤ length (now a) ⌝ }
+    ensures { λ r. ⌜ r ≡ staticFits f (now (a .entry)) ⌝ }
+{
+    if either(le_supported(f), octets::all_zero(a)) {
+        return static_address_ok(a);
+    }
+    false
+}
+
+// Whether hardware, BR/EDR and Low Energy, and static address are valid.
 pub fn radio_ok(r: RadioSettings) -> bool
     ensures { λ q. ⌜ q ≡ radioOk r ⌝ }
 {
     let f = r.hardware;
     let own = r.staticAddress;
     if hardware_ok(f) {
-        if either(!r.bredr, bredr_supported(f)) {
-            if either(r.bredr, r.lowEnergy) {
-                if either(le_supported(f), both(!r.lowEnergy, octets::all_zero(&own))) {
-                    return static_address_ok(&own);
-                }
-                return false;
-            }
-            return false;
+        if switches_ok(f, r.bredr, r.lowEnergy) {
+            return static_fits(f, &own);
         }
         return false;
     }
     false
+}
+
+// The flags of an image, by the settings that it keeps.
+pub fn flag_word(connectable: bool, bondable: bool, bredr: bool, lowEnergy: bool) -> u64
+    ensures { λ r. ⌜ r ≡ flagWord connectable bondable bredr lowEnergy ⌝ }
+{
+    flag_of(connectable, 2) + flag_of(bondable, 16) + flag_of(bredr, 128) + flag_of(lowEnergy, 512)
 }
 
 // Whether BR/EDR is on where it is supported.

@@ -17,7 +17,7 @@ use Rattle.model.specs.declared.Place.the-variants.{AtOctet}
 use Rattle.model.specs.Rules.{ImmediateRule, RadioRule, Rule, act, done, general, immediate, radio, unless}
 use Rattle.model.specs.Commands.{rule}
 use Rattle.model.specs.Hub.{Outcome, Verdict, acted, anyway, badArgument, badPacket, byRule, byStatus, codeOf, finished, generalOut, immediateAt, immediateDone}
-use Rattle.model.specs.Hub.{indexOf, noRoom, notInImage, outcome, packetOk, paramsOf, radioAfterBusy, radioAt, radioBeforeBusy, refusalForm, refused}
+use Rattle.model.specs.Hub.{indexOf, noRoom, outcome, packetOk, paramsOf, radioAfterBusy, radioAt, radioBeforeBusy, refusalForm, refused}
 use Rattle.model.specs.Hub.{underWay, verdict}
 use Rattle.why.specs.declared.Finding.{Finding}
 use Rattle.why.specs.declared.Finding.the-variants.{Busy, Taken, Wrong}
@@ -31,7 +31,6 @@ reasonIn (refused f r) = some r
 reasonIn badPacket = none
 reasonIn noRoom = none
 reasonIn badArgument = none
-reasonIn notInImage = none
 
 -- a finding names the reason that refuses with nothing under way, if it is not Busy
 abbrev pub SameReason : Finding → Outcome → Type 0

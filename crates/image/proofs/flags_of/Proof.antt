@@ -1,36 +1,15 @@
--- `image::flags_of` meets its contract: the sum of the three flags.
-use Prim.Native.Nat.{_-_}
+-- `image::flags_of` meets its contract: the flags of the four settings.
 use Rattle.image.specs.Images.{flagsIn}
 use borrow.Author.Needs.{needs}
 use Rattle.image.proofs.flags_of.Statement.{statement}
 use Rattle.image.proofs.flags_of.Tie as tie
 
-flag-of-requires : tie.Need-flag-of-requires
-flag-of-requires c κs = search needs
-
-flag-of-requires-2 : tie.Need-flag-of-requires-2
-flag-of-requires-2 c κs = search needs
-
-flag-of-requires-3 : tie.Need-flag-of-requires-3
-flag-of-requires-3 c κs = search needs
-
-add-result : tie.Need-add-result
-add-result c = search needs
-
-add-result-2 : tie.Need-add-result-2
-add-result-2 c = search needs
+flag-word-requires : tie.Need-flag-word-requires
+flag-word-requires c κs = search needs
 
 returns : tie.Need-returns
 unfolding flagsIn
-returns c = cc
+returns c = c .flag-word .ensures
 
 pub flags-of-spec : {M : Type 1} → statement M
-flags-of-spec =
-    tie.close
-    (tie.spec
-    flag-of-requires
-    flag-of-requires-2
-    flag-of-requires-3
-    add-result
-    add-result-2
-    returns)
+flags-of-spec = tie.close (tie.spec flag-word-requires returns)

@@ -1,9 +1,6 @@
--- `image::save_controller` meets its contract: the fixed part, the name and the tables, one behind the other.
-use Prim.Native.Nat.{_-_}
+-- `image::save_controller` meets its contract: the fixed part, the names and the tables, one behind the other.
 use native.Mathlib.Omega.{arith}
-use Rattle.layout.specs.Places.{placeOf, sizes}
-use Rattle.octets.specs.Parts.{placeAt}
-use Rattle.image.proofs.SaveLaws.{controller-written}
+use Rattle.image.proofs.SaveLaws.{controller-written, names-by}
 use borrow.Author.Needs.{needs}
 use Rattle.image.proofs.save_controller.Statement.{statement}
 use Rattle.image.proofs.save_controller.Tie as tie
@@ -14,36 +11,41 @@ settings-at-requires c κs = search needs
 save-fixed-requires : tie.Need-save-fixed-requires
 save-fixed-requires c κs = search needs
 
-add-copy-part : tie.Need-add-copy-part
-add-copy-part c = search needs
+add-save-name : tie.Need-add-save-name
+add-save-name c = search needs
 
-name-place-requires : tie.Need-name-place-requires
-name-place-requires c κs = search needs
+save-name-requires : tie.Need-save-name-requires
+save-name-requires c κs = search needs
 
-copy-part-requires : tie.Need-copy-part-requires
-unfolding placeOf placeAt sizes
-copy-part-requires c κs =
-    let r = c .before .before .before .before .before .before .before .before .before .pre .0 in let a = r .below in let b = r .long in
-    let n = c .name-place .ensures in let k = c .before .before .before .before .save-fixed .kept .1 .1 .0 in (omega arith, omega arith)
-
-add-save-tables : tie.Need-add-save-tables
-add-save-tables c = search needs
+save-name-requires-2 : tie.Need-save-name-requires-2
+save-name-requires-2 c κs = search needs
 
 save-tables-requires : tie.Need-save-tables-requires
-save-tables-requires c κs = search needs
+save-tables-requires c κs =
+    let r = c .before .before .before .before .before .before .before .before .before .before .before .before .before .before .before .before .pre .0 in
+    let b = names-by _ _ r .1 in let n = c .before .before .before .before .before .before .before .save-name .ensures .0 in
+    let m = c .before .before .before .save-name2 .ensures .0 in let i = c .before .before .before .before .before .before .before .before .before .before .before .save-fixed .kept .1 .1 .0 in
+    let j = c .before .before .before .before .before .before .before .save-name .kept .1 .1 .1 .0 in
+    let k = c .before .before .before .save-name2 .kept .1 .1 .1 .0 in (r, omega arith)
 
 same-length : tie.Need-same-length
 same-length c = search needs
 
 returns : tie.Need-returns
 returns c =
-    let e = controller-written _ _ _ _ _ _ _ _ _ _
-    (c .before .before .before .before .before .before .before .before .before .before .before .before .before .before .before .before .pre .0)
-    (c .before .before .before .before .before .before .before .before .before .before .before .before .before .settings-at .ensures)
-    (c .before .before .before .before .before .before .before .before .before .before .before .save-fixed .ensures)
-    (c .before .before .before .before .before .before .before .name-place .ensures)
-    (c .before .before .before .before .before .before .copy-part .ensures) (c .before .before .save-tables .ensures .0)
-    (c .before .before .save-tables .ensures .2) in (e .0, search needs, e .1)
+    let e = controller-written _ _ _ _ _ _ _ _ _ _ _ _
+    (c .before .before .before .before .before .before .before .before .before .before .before .before .before .before .before .before .before .before .before .pre .0)
+    (c .before .before .before .before .before .before .before .before .before .before .before .before .before .before .before .before .settings-at .ensures)
+    (c .before .before .before .before .before .before .before .before .before .before .before .before .before .before .save-fixed .ensures)
+    (c .before .before .before .before .before .before .before .before .before .before .save-name .ensures .0)
+    (c .before .before .before .before .before .before .before .before .before .before .save-name .ensures .2)
+    (c .before .before .before .before .before .before .save-name2 .ensures .0)
+    (c .before .before .before .before .before .before .save-name2 .ensures .2) (c .before .before .save-tables .ensures .0)
+    (c .before .before .save-tables .ensures .2) in
+    let b = names-by _ _ (c .before .before .before .before .before .before .before .before .before .before .before .before .before .before .before .before .before .before .before .pre .0) .1 in
+    let n = c .before .before .before .before .before .before .before .before .before .before .save-name .ensures .0 in
+    let m = c .before .before .before .before .before .before .save-name2 .ensures .0 in let t = c .before .before .save-tables .ensures .1 in
+    (e .0, omega arith, e .1)
 
 pub save-controller-spec : {M : Type 1} → statement M
 save-controller-spec =
@@ -51,10 +53,9 @@ save-controller-spec =
     (tie.spec
     settings-at-requires
     save-fixed-requires
-    add-copy-part
-    name-place-requires
-    copy-part-requires
-    add-save-tables
+    add-save-name
+    save-name-requires
+    save-name-requires-2
     save-tables-requires
     same-length
     returns)

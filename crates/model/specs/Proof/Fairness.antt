@@ -27,7 +27,7 @@ use Rattle.model.specs.Immediate.{readInformation, removeAdvertising, re
 use Rattle.model.specs.Immediate.{unpairDevice, unpaired}
 use Rattle.model.specs.Commands.{rows, rule}
 use Rattle.model.specs.Hub.{Outcome, Result, Verdict, acted, anyway, badArgument, badPacket, busyOr, byRule, call, callPlain, clock, clockOut}
-use Rattle.model.specs.Hub.{codeOf, notInImage}
+use Rattle.model.specs.Hub.{codeOf}
 use Rattle.model.specs.Hub.{command, commandOut, finish, finishBy, finished, generalOut, immediateAt, immediateDone, indexOf, keep, noRoom, outcome}
 use Rattle.model.specs.Hub.{packetOk, paramsOf}
 use Rattle.model.specs.Hub.{plug, plugOut, radioAfterBusy, radioAt, radioBeforeBusy, refused, report, reportOut, save, saveOut, stateOf, stepOf, tick}
@@ -39,7 +39,7 @@ use Rattle.model.specs.Demand3.{hostNext}
 use Rattle.model.specs.Fairness.{each, offAir, scheduleAt, scheduleIn, secondsIn, steadyIn}
 use Rattle.model.specs.Proof.Advertising.{advertising-fit}
 use Rattle.model.specs.Proof.EveryRow.{Each, _&_, end, found}
-use Rattle.model.specs.Proof.Invariant.{put-other, put-same, save-same, slot-tick}
+use Rattle.model.specs.Proof.Invariant.{put-other, put-same, slot-tick}
 use Rattle.model.specs.Proof.Keeps.{well-fit}
 use Rattle.model.specs.Proof.Lump.{Step, acts, small, waitingIn, waits}
 use Rattle.model.specs.Proof.OneLump.{lump-step, taken-before}
@@ -345,7 +345,6 @@ unplugged-forward i k h j (refused g r) f = f
 unplugged-forward i k h j badPacket f = f
 unplugged-forward i k h j noRoom f = f
 unplugged-forward i k h j badArgument f = f
-unplugged-forward i k h j notInImage f = f
 
 -- a packet, given to our hub
 packet-forward : (i k : ℕ) (h : Hub) (room : ℕ) (packet : Octets) → Forward i k (h .plain) (call h (command room packet) .state .plain)
@@ -443,7 +442,7 @@ no-second m i k h c u f = forward-wait m i k (h .plain) (next h c .plain) _ _ re
 -- AFTER A CALL OR A LUMP, k waits as much less as seconds passed
 pub next-wait : (m : ℕ → ℕ) (i k : ℕ) (h : Hub) (c : HostCall) → wellFormed h ≡ true → hostCallWide c ≡ true → Undisturbed m i k h c
     → waiting m k (scheduleAt (next h c) i) + passing h c ≤ waiting m k (scheduleAt h i)
-unfolding hostNext secondsIn hostCallWide call keep callPlain stateOf
+unfolding hostNext secondsIn hostCallWide call keep callPlain stateOf saveOut
 next-wait m i k h (direct (clock room reading)) w cw u = rw (clock-schedule i h room reading)
     (seconds-wait m k (passing h (direct (clock room reading))) (scheduleAt h i) (u .before) (u .off) (u .eachUnder) .1)
 next-wait m i k h (direct (command room packet)) w cw u =
@@ -459,6 +458,6 @@ next-wait m i k h (direct (unplug room j)) w cw u =
     (within-forward i k (h .plain) 1024 room (unplugOut (h .plain) j (controllerAt (h .plain) j))
     (unplug-forward i k (h .plain) j (controllerAt (h .plain) j) refl)))
 next-wait m i k h (direct (save room)) w cw u = no-second m i k h (direct (save room)) u
-    (within-forward i k (h .plain) 16014 room (saveOut (h .plain)) (rw (save-same (h .plain)) (still i k (h .plain))))
+    (within-forward i k (h .plain) 16014 room (saveOut (h .plain)) (still i k (h .plain)))
 next-wait m i k h (stream room o) w cw u =
     no-second m i k h (stream room o) u (lump-forward i k h room (taken-before h) o _ (lump-step h w room o cw))

@@ -17,7 +17,7 @@ use Rattle.model.specs.State.{Controller, Hub, OpenCommand, PlainHub, Wa
 use Rattle.model.specs.Reasons.{Reason, firstOf}
 use Rattle.model.specs.Rules.{Immediate, RadioRule, Rule, act, done, general, immediate, radio, refuse}
 use Rattle.model.specs.Commands.{rule}
-use Rattle.model.specs.Hub.{Call, Outcome, Result, Verdict, acted, answerOf, anyway, badArgument, badPacket, notInImage, busyOr, byRule, call}
+use Rattle.model.specs.Hub.{Call, Outcome, Result, Verdict, acted, answerOf, anyway, badArgument, badPacket, busyOr, byRule, call}
 use Rattle.model.specs.Hub.{callPlain, clock, codeOf, command, commandOut}
 use Rattle.model.specs.Hub.{finished, generalOut, immediateAt, immediateDone, indexOf, keep, noRoom, octetsOf, outcome, packetOk, paramsOf}
 use Rattle.model.specs.Hub.{plug, radioAfterBusy, radioAt}
@@ -65,7 +65,6 @@ module _ (h : Hub) (w : Waiting) where
   unplug-aside i badPacket = refl
   unplug-aside i noRoom = refl
   unplug-aside i badArgument = refl
-  unplug-aside i notInImage = refl
 
   -- NO CALL LOOKS AT THE WAITING OCTETS, and every call leaves them
   pub aside : (c : Call) → call (withWaiting h w) c ≡ waitingIn w (call h c)

@@ -9,18 +9,18 @@ use lib.ListN.{length}
 use lib.Dec.{eqb, ltb}
 use Rattle.model.specs.Octets.{Octets, allZero, bytes, octet, u16}
 use Rattle.model.specs.Advertising.{Schedule, noAdvertising, repowered}
-use Rattle.model.specs.State.{Controller, Host, RadioSettings, bredrSupported, hardwareOk, leSupported, noTimer}
-use Rattle.model.specs.State.{staticAddressOk, withBredr, withConnectable, withLowEnergy, withPowered}
+use Rattle.model.specs.State.{Controller, Host, RadioSettings, bredrSupported, leSupported, noTimer}
+use Rattle.model.specs.State.{withBredr, withConnectable, withLowEnergy, withPowered}
 use Rattle.model.specs.State.{withStaticAddress}
 use Rattle.model.specs.State.{withAdvertising, withSchedule, withTimer}
 use Rattle.model.specs.Reasons.{Check, Reason, firstOf}
-use Rattle.model.specs.Rules.{RadioRule, on, radio, refuse, setConnectable}
+use Rattle.model.specs.Rules.{RadioRule, on, radio, setConnectable}
 use Rattle.model.specs.Rules.{setBredr, setDiscoverable, setLowEnergy, setPowered, setStaticAddress}
 use Rattle.model.specs.Image.{radioOk}
 use Rattle.model.specs.WellFormed.{addressed, advertisingOk, controllerOk, settingsFit, timerOk, widthsOk}
 use Rattle.model.specs.Proof.Advertising.{advertising-fit, le-on, no-advertising-ok, rescheduled-ok}
 use Rattle.model.specs.Proof.Schedule.{repowered-ok}
-use Rattle.model.specs.Proof.Parts.{controller-fit, fit-controller, fit-widths, widths-fit}
+use Rattle.model.specs.Proof.Parts.{controller-fit, fit-controller, fit-radio, fit-widths, radio-fit, widths-fit}
 use Rattle.model.specs.Proof.Tables.{byte-at, lt-true}
 use Rattle.model.specs.Proof.EveryRow.{_&_}
 use Rattle.model.specs.Proof.Tests.{and-true, both, either, no-way, not-false, not-true, or-true}
@@ -163,33 +163,21 @@ keeps-connectable c ps e w z n l =
     (λ t. anew c (withConnectable (c .radio) (on ps)) (withTimer (c .host) noTimer) e (h .radio) (h .staticAddress) refl refl refl (b .1)
     (widths-fit c e .staticAddress) refl (h .advertising))
 
--- the parts of radioOk
-pub record RadioFit (r : RadioSettings) : Type 0 where
-  pub hardware : hardwareOk (r .hardware) ≡ true
-  pub bredr : not (r .bredr) || bredrSupported (r .hardware) ≡ true
-  pub one : r .bredr || r .lowEnergy ≡ true
-  pub low : leSupported (r .hardware) || (not (r .lowEnergy) && allZero (r .staticAddress)) ≡ true
-  pub staticAddress : staticAddressOk (r .staticAddress) ≡ true
-
--- the parts of well-formed radio settings
-pub radio-fit : (r : RadioSettings) → radioOk r ≡ true → RadioFit r
-unfolding radioOk
-radio-fit r e =
-    let a = and-true (hardwareOk (r .hardware)) _ e in
-    let b = and-true (not (r .bredr) || bredrSupported (r .hardware)) _ (a .1) in
-    let d = and-true (r .bredr || r .lowEnergy) _ (b .1) in
-    let f = and-true (leSupported (r .hardware) || (not (r .lowEnergy) && allZero (r .staticAddress))) (staticAddressOk (r .staticAddress)) (d .1) in
-    record { hardware = a .0; bredr = b .0; one = d .0; low = f .0; staticAddress = f .1 }
-
 -- Set Low Energy
 pub keeps-lowEnergy : KeepsRadio setLowEnergy
-unfolding KeepsRadio setLowEnergy withLowEnergy withAdvertising timerOk addressed radioOk
+unfolding KeepsRadio setLowEnergy withLowEnergy withAdvertising timerOk addressed
 keeps-lowEnergy c ps e w z n l =
     let h = controller-fit c e in
     let f = radio-fit (c .radio) (h .radio) in
     let le : leSupported (c .radio .hardware) ≡ true = not-false _ (first-none _ _ (first-none _ _ n .1) .0) in
-    let k : radioOk (withLowEnergy (c .radio) (on ps)) ≡ true =
-    both (f .hardware) (both (f .bredr) (both (one (c .radio .bredr) (on ps) (first-none _ _ (first-none _ _ l .1) .0)) (rw le (f .staticAddress)))) in
+    let k : radioOk (withLowEnergy (c .radio) (on ps)) ≡ true = fit-radio (withLowEnergy (c .radio) (on ps)) (record {
+      hardware = f .hardware;
+      bredr = f .bredr;
+      one = one (c .radio .bredr) (on ps) (first-none _ _ (first-none _ _ l .1) .0);
+      low = rw le;
+      support = f .support;
+      staticAddress = f .staticAddress;
+    }) in
     let fits : (s : Host) → s .settings ≡ c .host .settings → s .name ≡ c .host .name → s .tables ≡ c .host .tables
     → advertisingOk (on ps) (c .radio .powered) (s .advertising) ≡ true → controllerOk
     (record { radio = withLowEnergy (c .radio) (on ps); host = s }) ≡ true =
@@ -206,7 +194,7 @@ keeps-lowEnergy c ps e w z n l =
 
 -- Set BR/EDR
 pub keeps-bredr : KeepsRadio setBredr
-unfolding KeepsRadio setBredr withBredr withTimer noTimer timerOk radioOk addressed settingsFit
+unfolding KeepsRadio setBredr withBredr withTimer noTimer timerOk addressed settingsFit
 keeps-bredr c ps e w z n l =
     let h = controller-fit c e in
     let f = radio-fit (c .radio) (h .radio) in
@@ -216,7 +204,8 @@ keeps-bredr c ps e w z n l =
     let le : c .radio .lowEnergy ≡ true = not-false _ (first-none _ _ (first-none _ _ (first-none _ _ l .1) .1) .0) in
     let sup : not (on ps) || bredrSupported (c .radio .hardware) ≡ true = rw br (or-true (not (on ps))) in
     let one : on ps || c .radio .lowEnergy ≡ true = rw le (or-true (on ps)) in
-    let k : radioOk (withBredr (c .radio) (on ps)) ≡ true = both (f .hardware) (both sup (both one (both (f .low) (f .staticAddress)))) in
+    let k : radioOk (withBredr (c .radio) (on ps)) ≡ true = fit-radio (withBredr (c .radio) (on ps))
+    (record { hardware = f .hardware; bredr = sup; one = one; low = f .low; support = f .support; staticAddress = f .staticAddress }) in
     either (λ s. controllerOk (record { radio = withBredr (c .radio) (on ps); host = s }) ≡ true) (on ps)
     (λ t. anew c (withBredr (c .radio) (on ps)) (c .host) e k (h .staticAddress) refl refl refl
     (rw t (both (let-by-first (c .host .settings .timer .discoverable) (c .radio .connectable) (c .radio .bredr) (a .0)) (both (b .0) (b .1))))
@@ -226,7 +215,7 @@ keeps-bredr c ps e w z n l =
 
 -- Set Static Address
 pub keeps-staticAddress : KeepsRadio setStaticAddress
-unfolding KeepsRadio setStaticAddress withStaticAddress timerOk addressed radioOk settingsFit
+unfolding KeepsRadio setStaticAddress withStaticAddress timerOk addressed settingsFit
 keeps-staticAddress c ps e w z n l =
     let h = controller-fit c e in
     let f = radio-fit (c .radio) (h .radio) in
@@ -234,5 +223,6 @@ keeps-staticAddress c ps e w z n l =
     let off : c .radio .powered ≡ false = first-none _ _ l .0 in
     let le : leSupported (c .radio .hardware) ≡ true = not-false _ (first-none _ _ (a .1) .0) in
     anew c (withStaticAddress (c .radio) ps) (c .host) e
-    (both (f .hardware) (both (f .bredr) (both (f .one) (rw le (not-false _ (a .0))))))
+    (fit-radio (withStaticAddress (c .radio) ps)
+    (record { hardware = f .hardware; bredr = f .bredr; one = f .one; low = f .low; support = rw le; staticAddress = not-false _ (a .0) }))
     z refl refl refl (rw off (rw off at (h .timer))) w (widths-fit c e .seconds) (h .advertising)

@@ -2,14 +2,14 @@
 use Prim.Native.Nat.{ℕ, _^_, _≤_}
 use native.Mathlib.Omega.{arith}
 use mathlib.Core.Path.{_≡_, refl, sym}
-use mathlib.Core.Bool.{Bool, true, false, _&&_, _||_, not}
+use mathlib.Core.Bool.{Bool, true, false, _&&_, not}
 use mathlib.Core.List.{List, [], _∷_}
 use mathlib.Core.Option.{Option, none, some}
-use lib.ListN.{length, take}
+use lib.ListN.{length}
 use lib.Dec.{eqb, leb, ltb}
 use Rattle.model.specs.Lengths as Lengths
 use Rattle.model.specs.Statuses as Statuses
-use Rattle.model.specs.Octets.{Octets, commandStatus}
+use Rattle.model.specs.Octets.{Octets}
 use Rattle.model.specs.State.{Controller, Hardware, Hub, OpenCommand, PlainHub, controllerAt, hardwareOk}
 use Rattle.model.specs.Reasons.{Reason, statusOf, firstOf}
 use Rattle.model.specs.Rules.{sameBool, Immediate, ImmediateRule, RadioRule, Rule, done, general, immediate, radio, refuse}
@@ -18,12 +18,12 @@ use Rattle.model.specs.Immediate.{addAdvertising, removeAdvertising, set
 use Rattle.model.specs.Commands.{Row, find, rows, rule}
 use Rattle.model.specs.Hub.{Call, Outcome, RefusalForm, Result, Verdict, acted, answerOf, anyway, badArgument, badPacket, busyOr, byRule}
 use Rattle.model.specs.Hub.{byStatus, call, callPlain}
-use Rattle.model.specs.Hub.{clock, clockOut, codeOf, command, commandOut, finish, finishBy, finished, notInImage, generalOut, immediateAt, immediateDone}
+use Rattle.model.specs.Hub.{clock, clockOut, codeOf, command, commandOut, finish, finishBy, finished, generalOut, immediateAt, immediateDone}
 use Rattle.model.specs.Hub.{indexOf, keep, noRoom}
-use Rattle.model.specs.Hub.{octetsOf, outcome, packetOk, paramsOf, plug, plugOut, radioAfterBusy, radioAt, radioBeforeBusy, refusalForm}
+use Rattle.model.specs.Hub.{octetsOf, packetOk, paramsOf, plug, plugOut, radioAfterBusy, radioAt, radioBeforeBusy, refusalForm}
 use Rattle.model.specs.Hub.{refusalOctets, refused, report}
 use Rattle.model.specs.Hub.{reportOut, save, saveOut, stepOf, underWay, unlessBusy, unplug, unplugOut, unplugged, verdict, within}
-use Rattle.model.specs.Image.{hasImage, load}
+use Rattle.model.specs.Reading.{Judged, acceptable, eitherVersion, faulty, judge}
 use Rattle.model.specs.Layout.{decode}
 use Rattle.model.specs.Meanings.{badState, hubLoad, laidOut, loadMeaning, loadedInto, meaning, stateOk}
 use Rattle.model.specs.Written.{OneReply, Written, addressCommand, busy, busyCommand, byCommandComplete, byCommandStatus, hasArgument}
@@ -53,7 +53,6 @@ Formed c (refused f r) = FormOf c f r
 Formed c badPacket = Written c 3 []
 Formed c noRoom = Unit
 Formed c badArgument = hasArgument c ≡ true
-Formed c notInImage = Written c 8 []
 
 -- a refusal of such a form is one status reply
 form-written : (c : Call) (f : RefusalForm) (r : Reason) → FormOf c f r → Written c 2 (refusalOctets (f .index) (f .code) (f .address) (statusOf r))
@@ -70,7 +69,6 @@ outcome-written c (refused g r) f = form-written c g r f
 outcome-written c badPacket f = f
 outcome-written c noRoom f = WrittenCase.smallBuffer
 outcome-written c badArgument f = WrittenCase.badArgument f
-outcome-written c notInImage f = f
 
 -- 2. Commands -----------------------------------------------------------------------------------------------------------------------------------
 
@@ -239,12 +237,6 @@ unplug-written c h i (refused g r) f = outcome-written c (refused g r) f
 unplug-written c h i badPacket f = outcome-written c badPacket f
 unplug-written c h i noRoom f = outcome-written c noRoom f
 unplug-written c h i badArgument f = outcome-written c badArgument f
-unplug-written c h i notInImage f = outcome-written c notInImage f
-
--- a save
-save-formed : (room : ℕ) (p : PlainHub) → Formed (save room) (saveOut p)
-unfolding Formed saveOut
-save-formed room p = either {A = Outcome} (λ x. Formed (save room) x) (hasImage (p .controllers)) (λ _. tt) (λ _. WrittenCase.notInImage)
 
 -- the outcome of an unplug
 unplug-formed : (c : Call) (p : PlainHub) (i : ℕ) (s : Option Controller) → hasArgument c ≡ true → Formed c (unplugOut p i s)
@@ -281,7 +273,7 @@ report-written c h i s (some o) g =
 
 -- any call to our hub
 call-written : (h : Hub) (c : Call) → Written c (call h c .answer) (call h c .octets)
-unfolding call callPlain keep Formed answerOf octetsOf hasArgument
+unfolding call callPlain keep Formed answerOf octetsOf hasArgument saveOut
 call-written h (command room packet) =
     command-written room packet h (verdict (h .plain) room packet) (underWay h (indexOf packet)) (verdict-formed room packet (h .plain))
 call-written h (report room i s) =
@@ -304,7 +296,7 @@ call-written h (unplug room i) =
 call-written h (save room) =
     let o = saveOut (h .plain) in
     outcome-written (save room) (within Lengths.largestImage room o)
-    (within-formed (save room) Lengths.largestImage room o (save-formed room (h .plain)))
+    (within-formed (save room) Lengths.largestImage room o tt)
 
 -- EVERY CALL WRITES WHAT ITS ANSWER LETS IT WRITE, whatever the lent octets hold
 pub state-written : (s : Octets) (c : Call) → Written c (meaning s c .answer) (meaning s c .octets)
@@ -323,7 +315,6 @@ silent c n o WrittenCase.badPacket a b = refl
 silent c n o WrittenCase.smallBuffer a b = refl
 silent c n o WrittenCase.badState a b = refl
 silent c n o (WrittenCase.badArgument g) a b = refl
-silent c n o WrittenCase.notInImage a b = refl
 
 -- refused: one status reply
 pub one-reply : (c : Call) (n : ℕ) (o : Octets) → Written c n o → n ≡ 2 → OneReply c o
@@ -334,28 +325,26 @@ one-reply c n o WrittenCase.badPacket e = absurd (omega arith)
 one-reply c n o WrittenCase.smallBuffer e = absurd (omega arith)
 one-reply c n o WrittenCase.badState e = absurd (omega arith)
 one-reply c n o (WrittenCase.badArgument g) e = absurd (omega arith)
-one-reply c n o WrittenCase.notInImage e = absurd (omega arith)
 
--- the number is one of 0 to 8
-pub to-eight : (c : Call) (n : ℕ) (o : Octets) → Written c n o → n ≤ 8
-to-eight c n o WrittenCase.done = omega arith
-to-eight c n o WrittenCase.started = omega arith
-to-eight c n o (WrittenCase.refused r) = omega arith
-to-eight c n o WrittenCase.badPacket = omega arith
-to-eight c n o WrittenCase.smallBuffer = omega arith
-to-eight c n o WrittenCase.badState = omega arith
-to-eight c n o (WrittenCase.badArgument g) = omega arith
-to-eight c n o WrittenCase.notInImage = omega arith
+-- the number is one of 0 to 6
+pub to-six : (c : Call) (n : ℕ) (o : Octets) → Written c n o → n ≤ 6
+to-six c n o WrittenCase.done = omega arith
+to-six c n o WrittenCase.started = omega arith
+to-six c n o (WrittenCase.refused r) = omega arith
+to-six c n o WrittenCase.badPacket = omega arith
+to-six c n o WrittenCase.smallBuffer = omega arith
+to-six c n o WrittenCase.badState = omega arith
+to-six c n o (WrittenCase.badArgument g) = omega arith
 
 -- a load, by what it read
-load-written-by : (s : Octets) (x : Option PlainHub) → (loadAnswer (loadedInto s x .answer) ≡ true) × (loadedInto s x .octets ≡ [])
+load-written-by : (s : Octets) (x : Judged) → (loadAnswer (loadedInto s x .answer) ≡ true) × (loadedInto s x .octets ≡ [])
 unfolding loadedInto loadAnswer
-load-written-by s none = (refl, refl)
-load-written-by s (some p) = (refl, refl)
+load-written-by s (faulty k at) = (refl, refl)
+load-written-by s (acceptable p) = (refl, refl)
 
 -- a load answers 0, 5 or 7 and writes nothing but the state
 pub load-written : (s o : Octets) → (loadAnswer (hubLoad s o .answer) ≡ true) × (hubLoad s o .octets ≡ [])
 unfolding hubLoad loadMeaning badState loadAnswer
 load-written s o =
-    either {A = Result Octets} (λ r. (loadAnswer (r .answer) ≡ true) × (r .octets ≡ [])) (eqb (length s) Lengths.state) (λ _. load-written-by s (load o))
+    either {A = Result Octets} (λ r. (loadAnswer (r .answer) ≡ true) × (r .octets ≡ [])) (eqb (length s) Lengths.state) (λ _. load-written-by s (judge eitherVersion o))
     (λ _. (refl, refl))

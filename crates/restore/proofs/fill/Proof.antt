@@ -1,23 +1,22 @@
 -- `restore::fill` meets its contract. The invariant: so many controllers are left at that place of the image.
 use mathlib.Core.Path.{_≡_, refl, _∙_}
-use Prim.Native.Nat.{_-_}
 use native.Mathlib.Omega.{arith}
-use lib.ListN.{length}
 use mathlib.Core.Bool.{true}
+use lib.ListN.{length}
 use Rattle.model.specs.Lengths as Lengths
 use Rattle.model.specs.Octets.{bytes}
+use Rattle.model.specs.Proof.Tables.{slice-bytes}
 use Rattle.layout.proofs.Filled.{state-cleared}
-use Rattle.restore.proofs.Loading.{Loads, image-long, loads-first, loads-last, loads-ready, loads-turn}
+use Rattle.restore.proofs.Loading.{Loading, loading-first, loading-last, loading-ready, loading-turn}
 use borrow.Author.Needs.{needs}
 use Rattle.restore.proofs.fill.Statement.{statement}
 use Rattle.restore.proofs.fill.Tie as tie
-use Rattle.model.specs.Proof.Tables.{slice-bytes}
 
 abbrev Inv-loop : tie.InvT-loop
-Inv-loop state₀ image left₀ at₀ state left at = (length state ≡ Lengths.state) × Loads image state left at
+Inv-loop version state₀ image left₀ at₀ state left at = (length state ≡ Lengths.state) × Loading version image state left at
 
 abbrev μ-loop : tie.MeasureT-loop
-μ-loop state₀ image left₀ at₀ state left at = left
+μ-loop version state₀ image left₀ at₀ state left at = left
 
 -- the image is octets
 wide : (c : tie.After-shared-slice-known Inv-loop μ-loop) → bytes (c .before .before .args .image .now) ≡ true
@@ -27,39 +26,29 @@ zero-fill-requires : tie.Need-zero-fill-requires Inv-loop μ-loop
 zero-fill-requires c κs = search needs
 
 shared-slice-read-left : tie.Need-shared-slice-read-left Inv-loop μ-loop
-shared-slice-read-left c = let g = image-long _ (c .before .before .before .before .before .before .before .pre .1) in omega arith
+shared-slice-read-left c = c .before .before .before .before .before .before .before .pre .2
 
 loop-holds : tie.Need-loop-holds Inv-loop μ-loop
 loop-holds c = (
   search needs,
-  loads-first _ _ (c .before .before .before .zero-fill .ensures
-      ∙ state-cleared _ _ (c .before .before .before .before .before .before .before .pre .0) refl),
+  loading-first _ _ _ (c .before .before .before .before .before .before .before .pre .2)
+      (c .before .before .before .zero-fill .ensures ∙ state-cleared _ _ (c .before .before .before .before .before .before .before .pre .0) refl),
 )
 
 shared-slice-read-fill-controller : tie.Need-shared-slice-read-fill-controller Inv-loop μ-loop
 shared-slice-read-fill-controller c =
-    loads-ready _ (wide (c .before .before .before .before .before .before .before .before .before))
-    (c .before .before .before .before .before .before .before .before .before .before .before .pre .1) _ _ _ (c .before .before .loop-test .taken)
+    loading-ready _ _ _ _ _ (wide (c .before .before .before .before .before .before .before .before .before))
+    (c .before .before .before .before .before .before .before .before .before .before .before .pre .1) (c .before .before .loop-test .taken)
     (c .before .before .before .loop .inv .1) .0
 
 cast-fill-controller : tie.Need-cast-fill-controller Inv-loop μ-loop
 cast-fill-controller c =
-    omega (
-      arith,
-      c .before .before .before .before .before .before .before .before .before .shared-slice-known .given
-          (c .before .before .before .loop .at),
-    )
-
-add-fill-controller : tie.Need-add-fill-controller Inv-loop μ-loop
-add-fill-controller c =
-    let g = loads-ready _ (wide (c .before .before .before .before .before .before .before .before .before))
-    (c .before .before .before .before .before .before .before .before .before .before .before .pre .1) _ _ _ (c .before .before .loop-test .taken)
-    (c .before .before .before .loop .inv .1) in omega (arith, g .0)
+    omega (arith, c .before .before .before .before .before .before .before .before .before .shared-slice-known .given (c .before .before .before .loop .at))
 
 fill-controller-requires : tie.Need-fill-controller-requires Inv-loop μ-loop
 fill-controller-requires c κs =
-    let g = loads-ready _ (wide (c .before .before .before .before .before .before .before .before .before))
-    (c .before .before .before .before .before .before .before .before .before .before .before .pre .1) _ _ _ (c .before .before .loop-test .taken)
+    let g = loading-ready _ _ _ _ _ (wide (c .before .before .before .before .before .before .before .before .before))
+    (c .before .before .before .before .before .before .before .before .before .before .before .pre .1) (c .before .before .loop-test .taken)
     (c .before .before .before .loop .inv .1) in (g .1, g .2, g .3, g .4)
 
 sub-left : tie.Need-sub-left Inv-loop μ-loop
@@ -71,8 +60,8 @@ loop-less c = omega arith
 loop-again : tie.Need-loop-again Inv-loop μ-loop
 loop-again c = (
   search needs,
-  loads-turn _ (wide (c .before .before .before .before .before .before .before .before .before .before .before .before))
-      (c .before .before .before .before .before .before .before .before .before .before .before .before .before .before .pre .1) _ _ _
+  loading-turn _ _ _ _ _ (wide (c .before .before .before .before .before .before .before .before .before .before .before .before))
+      (c .before .before .before .before .before .before .before .before .before .before .before .before .before .before .pre .1)
       (c .before .before .before .before .before .loop-test .taken) (c .before .before .before .before .before .before .loop .inv .1) _ _
       (c .before .before .fill-controller .ensures),
 )
@@ -81,7 +70,7 @@ same-length : tie.Need-same-length Inv-loop μ-loop
 same-length c = search needs
 
 returns : tie.Need-returns Inv-loop μ-loop
-returns c = loads-last _ _ _ _ (search needs) (c .before .loop .inv .1)
+returns c = loading-last _ _ _ _ _ (search needs) (c .before .loop .inv .1)
 
 pub fill-spec : {M : Type 1} → statement M
 fill-spec =
@@ -94,7 +83,6 @@ fill-spec =
     loop-holds
     shared-slice-read-fill-controller
     cast-fill-controller
-    add-fill-controller
     fill-controller-requires
     sub-left
     loop-less

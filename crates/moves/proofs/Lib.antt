@@ -1,0 +1,4 @@
+pub mod Skipping
+pub mod Pieces
+pub mod Controllers
+pub mod Writing

@@ -1,0 +1,4 @@
+pub mod OneTable
+pub mod Walks
+pub mod Judging
+pub mod Steps
