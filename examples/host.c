@@ -1,13 +1,14 @@
 /*
  * A small host that plays a shift: it starts from an image or fresh, plugs two controllers, powers them with a slow radio while two clients
- * interleave, loads keys, shows on a display where the devices stand that come and go, runs a controller on Low Energy alone, names another,
- * advertises in turns while the clock runs, saves by write-then-rename, loads again and shows the name. Client A hands over whole packets; client B is the
- * tablet, whose octets come off a serial line cut anywhere (serial_line.h). Every packet and call is printed in words with its octets, and after it what is
- * on air, as the radio asks for it, where that has changed. Behind a refused command stands why the hub refuses it, in the log too.
+ * interleave, loads keys, shows on a display where the devices stand that come and go, names a controller, runs another on Low Energy alone, advertises in
+ * turns while the clock runs, saves, loads again (image_file.h) and shows what was kept. Client A hands over whole packets; client B is the tablet, whose
+ * octets come off a serial line cut anywhere (tablet.h). Every packet and call is printed in words with its octets, and after it what is on air where that
+ * has changed; behind a refused command stands why the hub refuses it, in the log too (outcomes.h).
  *
- *     host [IMAGE [LOG]]      IMAGE is read if it is there, and written at the end; LOG gets every packet (call_log.h)
+ *     host [IMAGE [LOG]]      IMAGE is read if it is there, in either version, and written on the way and at the end; IMAGE.1 is the same in version 1, and
+ *                             is removed where version 1 cannot say it, as at the end; LOG gets every packet (call_log.h)
  */
-#define _POSIX_C_SOURCE 200809L
+#define _XOPEN_SOURCE 700
 #include <errno.h>
 #include <stdio.h>
 #include <stdlib.h>
@@ -15,181 +16,10 @@
 
 #include "call_log.h"
 #include "hub.h"
+#include "image_file.h"
+#include "outcomes.h"
 #include "serial_line.h"
-#include "words.h"
-
-enum { CONTROLLERS = 4, ON_AIR_MAX = 3 + 31 + 31, PACKET_MAX = 6 + 65535, POSTED_MAX = 8, ALL = LINE_QUEUE };
-
-static uint8_t state[HUB_STATE_LEN];
-static uint8_t reply[HUB_IMAGE_MAX];
-
-/* What each controller's radio sends: the octets that hub_on_air gave, none where no advertising instance is on air. */
-static struct {
-    uint8_t octets[ON_AIR_MAX];
-    size_t count;
-} sending[CONTROLLERS];
-
-/* Says what a controller's radio begins to send, or that it stops, and notes it in the log. */
-static void say_on_air(unsigned index)
-{
-    const uint8_t *octets = sending[index].octets;
-    char words[128];
-    if (sending[index].count == 0)
-        snprintf(words, sizeof words, "Controller %u: no instance is on air", index);
-    else
-        snprintf(words, sizeof words, "Controller %u: instance %u is on air, %u octets of data, %u of scan response", index, octets[0], octets[1],
-                 octets[2]);
-    printf("    %s\n", words);
-    log_line(NULL, "note", words, NULL, 0);
-}
-
-/* The radio of each controller asks what is on air, after each call; an index that is absent sends nothing. */
-static void radio_asks(void)
-{
-    static uint8_t octets[HUB_REPLY_MIN];
-    for (unsigned index = 0; index < CONTROLLERS; index++) {
-        size_t count = hub_count(hub_on_air(state, sizeof state, index, octets, sizeof octets));
-        if (count == sending[index].count && memcmp(octets, sending[index].octets, count) == 0)
-            continue;
-        memcpy(sending[index].octets, octets, count);
-        sending[index].count = count;
-        say_on_air(index);
-    }
-}
-
-/* Says what came of a call, packet by packet. */
-static void said(const char *what, uint64_t result)
-{
-    char head[64];
-    struct hub_frame frame;
-    size_t place = 0;
-    printf("%s: %s\n", what, answer_name(hub_answer(result)));
-    while (hub_next_frame(reply, hub_count(result), &place, &frame)) {
-        snprintf(head, sizeof head, "index 0x%04X, %s", (unsigned)frame.index, frame_name(frame.code));
-        print_octets(head, frame.params, frame.length);
-    }
-    radio_asks();
-}
-
-/* The same of a call that no client made, with a note and what it wrote in the log. */
-static void told(const char *what, uint64_t result)
-{
-    log_line(NULL, "note", what, NULL, 0);
-    if (hub_count(result) > 0)
-        log_line(NULL, "wrote", NULL, reply, hub_count(result));
-    said(what, result);
-}
-
-/* Says why a packet was refused, and notes it in the log. A refused command leaves the state alone, so this may be asked after it. */
-static void say_why(const uint8_t *packet, size_t length)
-{
-    uint8_t text[HUB_TEXT_MIN];
-    char words[sizeof text + 16];
-    uint64_t result = hub_why(state, sizeof state, packet, length, text, sizeof text);
-    snprintf(words, sizeof words, "Refused: %.*s", (int)hub_count(result), (const char *)text);
-    printf("    %s\n", words);
-    log_line(NULL, "note", words, NULL, 0);
-}
-
-/* Says what came of a client's packet, in the log too: the packet, what was written, and why if it was refused. */
-static void answered(const char *client, const char *does, const uint8_t *packet, size_t length, uint64_t result)
-{
-    char what[128];
-    print_octets("packet", packet, length);
-    log_line(client, "sent", NULL, packet, length);
-    if (hub_count(result) > 0)
-        log_line(client, "wrote", NULL, reply, hub_count(result));
-    snprintf(what, sizeof what, "Client %s %s", client, does);
-    said(what, result);
-    if (hub_answer(result) == HUB_REFUSED)
-        say_why(packet, length);
-}
-
-/* The tablet's packets that it has posted and that are not finished, by what they do; and what the host has lent of the one that is coming in. */
-static struct {
-    const char *does[POSTED_MAX];
-    size_t posted;
-    uint8_t packet[PACKET_MAX];
-    size_t length, lumps;
-    int broken;
-} tablet;
-
-/* The line is broken, or the hub does not go on with it: nothing more comes off it, and the shift fails. */
-static void line_breaks(const char *why)
-{
-    printf("The serial line: %s\n", why);
-    tablet.broken = 1;
-}
-
-/* The packet that was coming in is finished; so many octets of its last lump are left for the next one. */
-static void finished(uint64_t result, size_t left)
-{
-    printf("    off the line in lumps: %zu, octets left of the last: %zu\n", tablet.lumps, left);
-    answered("B", tablet.posted > 0 ? tablet.does[0] : "sends what it never posted", tablet.packet, tablet.length, result);
-    if (tablet.posted > 0)
-        memmove(tablet.does, tablet.does + 1, --tablet.posted * sizeof tablet.does[0]);
-    tablet.length = tablet.lumps = 0;
-}
-
-/* Lends the hub a lump off the line until all of it is taken. What is taken is kept until its packet is finished: hub_why has to be given the whole of it. */
-static void lend(const uint8_t *octets, size_t count)
-{
-    while (count > 0 && !tablet.broken) {
-        const uint64_t result = hub_stream(state, sizeof state, octets, count, reply, sizeof reply);
-        const size_t taken = hub_taken(result);
-        if (taken == 0) {
-            line_breaks(answer_name(hub_answer(result)));
-            return;
-        }
-        memcpy(tablet.packet + tablet.length, octets, taken);
-        tablet.length += taken;
-        tablet.lumps++;
-        octets += taken;
-        count -= taken;
-        if (hub_answer(result) != HUB_INCOMPLETE)
-            finished(result, count);
-    }
-}
-
-/* Lends the hub all that has come off the line by now. */
-static void serve_line(void)
-{
-    uint8_t lump[LINE_LUMP];
-    ptrdiff_t count;
-    while (!tablet.broken && (count = line_read(lump)) != 0) {
-        if (count < 0)
-            line_breaks(strerror(errno));
-        else
-            lend(lump, (size_t)count);
-    }
-}
-
-/* The tablet writes so many octets of what it has posted, or all if there are less, piece by piece. Now and then the host serves the line meanwhile. */
-static void line_carries(size_t octets)
-{
-    while (octets > 0 && line.queued > 0 && !tablet.broken) {
-        const ptrdiff_t written = line_write(octets);
-        if (written < 0)
-            line_breaks(strerror(errno));
-        else
-            octets -= (size_t)written;
-        if (written == 0 || line_draw(3) == 1)
-            serve_line();
-    }
-    serve_line();
-}
-
-/* The tablet posts a packet. It is answered when the line has carried the last octet of it; on a broken line it is lost. */
-static void tablet_posts(const char *does, const uint8_t *packet, size_t length)
-{
-    if (tablet.broken)
-        return;
-    if (tablet.posted == POSTED_MAX || !line_post(packet, length)) {
-        line_breaks("more is posted than there is room for");
-        return;
-    }
-    tablet.does[tablet.posted++] = does;
-}
+#include "tablet.h"
 
 /* A client sends a command packet: code, index, parameters. The tablet, B, posts it; another client's is answered at once. */
 static void sends(const char *client, const char *does, uint16_t code, uint16_t index, const uint8_t *params, size_t length)
@@ -226,46 +56,11 @@ static void clock_reads(uint32_t seconds)
     told(what, hub_clock(state, sizeof state, seconds, reply, sizeof reply));
 }
 
-/* Starts from the image in a file, or fresh where there is none. Nothing waits of a packet off the line then, so nothing is kept of one. */
+/* Starts from an image or fresh. Nothing waits of a packet off the line then, so nothing is kept of one. */
 static int start(const char *path)
 {
-    static const uint8_t empty[] = { 0, 0, 0, 6, 1, 0 };
-    static uint8_t image[HUB_IMAGE_MAX + 1];
-    FILE *file = path ? fopen(path, "rb") : NULL;
-    uint64_t result;
     tablet.length = tablet.lumps = 0;
-    if (file) {
-        size_t length = fread(image, 1, sizeof image, file);
-        fclose(file);
-        result = hub_load(state, sizeof state, image, length);
-        printf("Image of %zu octets: %s\n", length, answer_name(hub_answer(result)));
-        radio_asks();
-        return hub_answer(result) == HUB_DONE;
-    }
-    result = hub_load(state, sizeof state, empty, sizeof empty);
-    printf("A fresh hub: %s\n", answer_name(hub_answer(result)));
-    return hub_answer(result) == HUB_DONE;
-}
-
-/* Writes the image to a new file and renames that over the old one, so that there is a whole image at every moment. */
-static int save(const char *path)
-{
-    char fresh[4096];
-    uint64_t result = hub_save(state, sizeof state, reply, sizeof reply);
-    FILE *file;
-    printf("Save: %s\n", answer_name(hub_answer(result)));
-    print_octets("image", reply, hub_count(result));
-    if (hub_answer(result) != HUB_DONE || !path)
-        return hub_answer(result) == HUB_DONE;
-    if (snprintf(fresh, sizeof fresh, "%s.new", path) >= (int)sizeof fresh)
-        return 0;
-    file = fopen(fresh, "wb");
-    if (!file || fwrite(reply, 1, hub_count(result), file) != hub_count(result) || fclose(file) != 0 || rename(fresh, path) != 0) {
-        printf("%s: %s\n", path, strerror(errno));
-        return 0;
-    }
-    printf("Saved %zu octets to %s\n", hub_count(result), path);
-    return 1;
+    return load_file(path);
 }
 
 /* Unplugs what an image brought, so that each shift begins alike. */
@@ -305,6 +100,19 @@ static void display_asks(const char *name, const uint8_t *device)
         printf("    Display: %s is in no slot, slots walked: %u\n", name, hub_walked(result));
     else
         printf("    Display: %s is in slot %u, slots walked: %u\n", name, hub_slot(result), hub_walked(result));
+}
+
+/* The cab's display shows which radios of a controller are on: bits 7, 9 and 15 of what Read Controller Information tells as its current settings. */
+static void display_shows(uint8_t index)
+{
+    const uint8_t read[6] = { 0x04, 0, index };
+    const uint64_t result = hub_command(state, sizeof state, read, sizeof read, reply, sizeof reply);
+    const uint8_t *settings = reply + 6 + 3 + 13;
+    if (hub_answer(result) != HUB_DONE)
+        printf("    Display: controller %u: %s\n", (unsigned)index, answer_name(hub_answer(result)));
+    else
+        printf("    Display: controller %u: BR/EDR %s, Low Energy %s, %s address\n", (unsigned)index, settings[0] & 0x80 ? "on" : "off",
+               settings[1] & 0x02 ? "on" : "off", settings[1] & 0x80 ? "static" : "public");
 }
 
 /* Two devices as a client adds them: address, type, action. */
@@ -347,6 +155,21 @@ static void load_keys(void)
     sends("A", "adds the UUID of Heart Rate, 0x180D, with hint 0x20", 0x0010, 0, uuid, sizeof uuid);
 }
 
+/* The tyre hub at 1, a controller with both transports, comes. */
+static void plug_tyre_hub(const char *what)
+{
+    static const uint8_t address[6] = { 0x12, 0x22, 0x33, 0x44, 0x55, 0x66 };
+    told(what, hub_plug(state, sizeof state, 1, address, 6, 9, 15, 0x0281, reply, sizeof reply));
+}
+
+/* The tyre hub loses its power while its radio works, and comes back. */
+static void restart_tyre_hub(void)
+{
+    sends_octet("A", "sets controller 1 powered", 0x0005, 1, 1);
+    told("Controller 1 is unplugged while its radio works", hub_unplug(state, sizeof state, 1, reply, sizeof reply));
+    plug_tyre_hub("Controller 1 is back");
+}
+
 /* A static random address for controller 1, which is off. Of its 46 random bits one at least has to be 0 and one 1, so a host that draws them tests them. */
 static void set_static_address(void)
 {
@@ -356,7 +179,7 @@ static void set_static_address(void)
     sends("B", "sets the static address D4:E7:03:5A:81:2F at controller 1", 0x002B, 1, drawn, sizeof drawn);
 }
 
-/* Controller 1, a tyre hub with both transports, is to run on Low Energy alone. An image cannot say that, so there is none before it is unplugged. */
+/* The tyre hub is to run on Low Energy alone. An image keeps that, but one of version 1 cannot. */
 static void low_energy_alone(void)
 {
     static const uint8_t for_good[3] = { 1, 0, 0 };
@@ -367,7 +190,7 @@ static void low_energy_alone(void)
     set_static_address();
     line_carries(ALL);
     sends_octet("A", "turns BR/EDR of controller 1 on beside its static address: refused", 0x002A, 1, 1);
-    told("Save while controller 1 is so", hub_save(state, sizeof state, reply, sizeof reply));
+    display_shows(1);
 }
 
 /* A client names controller 0. */
@@ -440,35 +263,43 @@ static void clients(const char *word)
     log_line("B", word, NULL, NULL, 0);
 }
 
-/* The shift: two controllers, two clients, a slow radio; an image is written and read on the way. */
+/* What was kept: the hub is loaded from the file that it was saved to, and shown. */
+static int show_kept(const char *path)
+{
+    static const uint8_t none[1] = { 0 };
+    if (!save_file(path) || (path && !start(path)))
+        return 0;
+    sends("B", path ? "reads controller 0: unpowered, its keys kept, its instances gone" : "reads controller 0 once more", 0x0004, 0, none, 0);
+    line_carries(ALL);
+    display_asks("the headset", headset);
+    show_names(0);
+    display_shows(1);
+    return 1;
+}
+
+/* The shift: two controllers, two clients, a slow radio; images are written and read on the way. */
 static int shift(const char *path)
 {
     static const uint8_t address[6] = { 0x11, 0x22, 0x33, 0x44, 0x55, 0x66 };
-    static const uint8_t address1[6] = { 0x12, 0x22, 0x33, 0x44, 0x55, 0x66 };
     told("Plug a dual-mode controller at 0", hub_plug(state, sizeof state, 0, address, 6, 9, 15, 0x0281, reply, sizeof reply));
-    told("Plug another at 1", hub_plug(state, sizeof state, 1, address1, 6, 9, 15, 0x0281, reply, sizeof reply));
+    plug_tyre_hub("Plug another at 1, a tyre hub");
     clock_reads(1000);
     interleave();
     load_keys();
-    low_energy_alone();
     set_name("A", "The plough on line 7", "Plough 7");
+    restart_tyre_hub();
+    if (!save_file(path))
+        return 0;
+    low_energy_alone();
     advertise();
     clock_reads(1029);
     clock_reads(1031);
     add_advertising("B", "changes instance 3, which is on air: the turn passes on", less_salt);
     line_carries(ALL);
     sends_octet("A", "removes instance 1, which is on air", 0x003F, 0, 1);
-    sends_octet("A", "sets controller 1 powered", 0x0005, 1, 1);
-    told("Controller 1 is unplugged while its radio works", hub_unplug(state, sizeof state, 1, reply, sizeof reply));
     sends("B", "reads the controllers", 0x0003, 0xFFFF, address, 0);
     line_carries(ALL);
-    if (!save(path) || (path && !start(path)))
-        return 0;
-    sends("B", path ? "reads controller 0: unpowered, its keys kept, its instances gone" : "reads controller 0 once more", 0x0004, 0, address, 0);
-    line_carries(ALL);
-    display_asks("the headset", headset);
-    show_names(0);
-    return 1;
+    return show_kept(path);
 }
 
 int main(int argc, char **argv)

@@ -3,7 +3,7 @@
  * in lengths of its own, so that an end of a packet, several packets or a few octets of one may come off the line at once. The lengths are drawn at
  * random from a fixed seed: each run is like the last.
  *
- * A file that includes this defines _POSIX_C_SOURCE as 200809L before its first include.
+ * A file that includes this defines _POSIX_C_SOURCE as 200809L, or _XOPEN_SOURCE as 700, before its first include.
  */
 #ifndef SERIAL_LINE_H
 #define SERIAL_LINE_H

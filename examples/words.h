@@ -12,7 +12,7 @@
 static inline const char *answer_name(unsigned answer)
 {
     static const char *const names[] = { "done", "started", "refused", "bad packet", "small buffer", "bad state", "bad argument", "bad image",
-                                         "not in an image", "incomplete" };
+                                         "cannot be said", "incomplete" };
     return answer < sizeof names / sizeof names[0] ? names[answer] : "?";
 }
 

@@ -1,9 +1,9 @@
 /*
  * The hub: steers up to four Bluetooth controllers, index 0 to 3, by the BlueZ management commands.
  *
- * The caller lends every buffer: the state, the packet or image, the reply or text. Each call returns one number that holds the answer and the count of
- * octets written to the reply, of hub_why a status too, of hub_look_up a slot and the slots walked, and of hub_stream the octets taken; take it apart with
- * hub_answer, hub_count, hub_extra, hub_slot, hub_walked and hub_taken. The reply buffer behind these octets is left alone.
+ * The caller lends every buffer: the state, the packet or image, the reply, text or room for an image. Each call returns one number that holds the answer
+ * and the count of octets written to the last of these, of hub_why a status too, of hub_look_up a slot and the slots walked, and of hub_stream the octets
+ * taken; take it apart with hub_answer, hub_count, hub_extra, hub_slot, hub_walked and hub_taken. The buffer behind the octets written is left alone.
  *
  * What the caller owes:
  *   - each length is the true length of its buffer;
@@ -16,8 +16,9 @@
  *
  * After HUB_BAD_STATE the state buffer is not what a call left: something else wrote it, an older library did, nothing was ever loaded, or its length is
  * not HUB_STATE_LEN, which no call mends. The call has done nothing, and every call but hub_load will answer the same. Load the last image that was saved,
- * or the empty one. What an image does not hold is lost: power, discoverable, timers, the clock, advertising instances, commands under way, that BR/EDR
- * is off, and what waits of a packet off the serial line. Reports for those commands are answered 6, so the host tells their clients itself.
+ * or the empty one. What an image does not hold is lost: power, discoverable, timers, the clock, advertising instances, commands under way, what waits of a
+ * packet off the serial line, and what stands in a name behind its first zero. Reports for those commands are answered 6, so the host tells their clients
+ * itself.
  *
  * After HUB_STARTED the command waits, without a limit of time, for hub_report or hub_unplug of its index; until then Set Powered, Set Discoverable,
  * Set Connectable, Set Low Energy, Set BR/EDR and Set Static Address to that index are refused Busy. A host whose radio driver gives up has to report a
@@ -37,11 +38,17 @@
  * other address in these places is answered HUB_BAD_IMAGE and a state HUB_BAD_STATE, as those of an older library may be. Nothing in them is mended: keep
  * the file, and start from the empty image.
  *
- * Set BR/EDR (0x002A) turns the BR/EDR of a controller that has both transports off and on; plug and load turn it on. Off is taken while power is off, and
- * turns discoverable off; on is taken with no static address; both want Low Energy on. With BR/EDR off or not supported, discoverable is not turned on and
- * Low Energy not off, and a static address is in use in place of a public one (bit 15 of Current_Settings). Link keys go by what is supported, also then. An
- * image cannot say that BR/EDR is off: as long as it is off at any controller that supports it, hub_save answers HUB_NOT_IN_IMAGE and writes nothing. To save
- * nonetheless: power off, static address zero, BR/EDR on, save, BR/EDR off, the static address again; and the last two once more after hub_load.
+ * Set BR/EDR (0x002A) turns the BR/EDR of a controller that has both transports off and on; plug turns it on, and an image keeps it. Off is taken while
+ * power is off, and turns discoverable off; on is taken with no static address; both want Low Energy on. With BR/EDR off or not supported, discoverable is
+ * not turned on and Low Energy not off, and a static address is in use in place of a public one (bit 15 of Current_Settings). Link keys go by what is
+ * supported, also then.
+ *
+ * An image is what a file keeps of a state. Its fifth octet is its version. In version 2 a name is a length octet and as many octets, none of them zero, and
+ * a flag says whether BR/EDR is on. In version 1 a name has all of its room, 249 or 11 octets, and BR/EDR counts as on wherever it is supported. In all
+ * else they are alike. hub_load takes both, and hub_save writes version 2: a file of version 1 is loaded as it is, but the next save makes it version 2, which
+ * an older library, one that knows version 1 alone, refuses. hub_downgrade makes version 1 of an image of version 2, unless it has BR/EDR off at a controller
+ * that supports it, and hub_upgrade makes version 2 of one of version 1. They work on images alone, without a state. Version 2 has no octets of a name
+ * behind its first zero: hub_upgrade drops them, as hub_save does, and they come back as zeros. Nothing else is lost either way.
  *
  * Octets off a serial line go to hub_stream as they come, in lumps of any length; it finds the packets. What has come of the next packet waits in the
  * state, and no other call touches it or looks at it: hub_command, the radio, the clock and hub_save go on beside it. No image holds it, and after hub_load
@@ -51,7 +58,7 @@
  * octets on. So a line that loses octets or adds some is out of step from there on, which no call sees, and what then looks like a packet is answered, and
  * done, as one. See to it that the line loses nothing, or check what comes off it before it is lent. No call drops what waits. A host that knows where a
  * packet begins again (the line was silent, the client has come back) has two ways to get there with nothing waiting: to save and load, which loses what no
- * image holds, and cannot be done while hub_save answers HUB_NOT_IN_IMAGE; or to lend octets of its own until the packet coming in is finished. That packet is answered, and done, as any other: choose them, as far as
+ * image holds; or to lend octets of its own until the packet coming in is finished. That packet is answered, and done, as any other: choose them, as far as
  * there is a choice, such that it is refused, which hub_why tells beforehand of the octets taken since the last packet with these behind them.
  *
  * A refusal tells a status and no more. hub_why says in words which check fails first and where in the packet: lend it the same packet and the state as it
@@ -75,9 +82,9 @@ extern "C" {
 
 /* The length of the state buffer; any other length is answered HUB_BAD_STATE. */
 #define HUB_STATE_LEN 18656u
-/* The shortest reply buffer that every call but hub_save takes; hub_why has a text buffer in its place. */
+/* The shortest reply buffer that every call but hub_save takes. */
 #define HUB_REPLY_MIN 1024u
-/* The shortest reply buffer that hub_save takes, and the length of the longest image. */
+/* The shortest buffer for an image that hub_save, hub_upgrade and hub_downgrade take, and the length of the longest image, in both versions. */
 #define HUB_IMAGE_MAX 16014u
 /* The shortest text buffer that hub_why takes; no text is longer. */
 #define HUB_TEXT_MIN 256u
@@ -87,11 +94,11 @@ extern "C" {
 #define HUB_STARTED 1u      /* started: the radio owes a report; the command is kept, nothing is written */
 #define HUB_REFUSED 2u      /* refused: one reply, which tells the status; state as it was, here and below (hub_stream: but for what waits) */
 #define HUB_BAD_PACKET 3u   /* the packet has no whole header, or another length than its header says */
-#define HUB_SMALL_BUFFER 4u /* the reply buffer is shorter than HUB_REPLY_MIN (hub_save: HUB_IMAGE_MAX; hub_why, its text: HUB_TEXT_MIN) */
+#define HUB_SMALL_BUFFER 4u /* the reply buffer is shorter than HUB_REPLY_MIN (an image's: HUB_IMAGE_MAX; the text's of hub_why: HUB_TEXT_MIN) */
 #define HUB_BAD_STATE 5u    /* the lent state is not well formed */
 #define HUB_BAD_ARGUMENT 6u /* a wrong argument, of hub_plug, hub_unplug, hub_report, hub_clock, hub_name, hub_on_air or hub_look_up */
-#define HUB_BAD_IMAGE 7u    /* hub_load does not take the image */
-#define HUB_NOT_IN_IMAGE 8u /* hub_save: a controller that supports BR/EDR has it off, which no image can say */
+#define HUB_BAD_IMAGE 7u    /* not an acceptable image: of version 1 or 2 for hub_load, of 1 for hub_upgrade, of 2 for hub_downgrade */
+#define HUB_NOT_IN_IMAGE 8u /* hub_downgrade: a controller that supports BR/EDR has it off, which version 1 cannot say */
 #define HUB_INCOMPLETE 9u   /* hub_stream: no packet is finished yet; all octets were taken, and only what waits has changed; nothing is written */
 
 /* The tables of a controller, as hub_look_up numbers them. */
@@ -110,7 +117,7 @@ static inline unsigned hub_answer(uint64_t result)
     return (unsigned)(result & 0xFFu);
 }
 
-/* The count of octets written to the reply buffer, or to the text buffer of hub_why. */
+/* The count of octets written to the reply buffer, to the text buffer of hub_why, or to the out buffer of hub_upgrade and hub_downgrade. */
 static inline size_t hub_count(uint64_t result)
 {
     return (size_t)((result >> 8) & 0xFFFFFFu);
@@ -154,8 +161,8 @@ struct hub_frame {
 /*
  * Tells the packets of a reply apart: the one that begins at *position, which is moved behind it. Start at 0 and go on while it returns 1; it returns
  * 0 at the end and where the octets up to count are no whole packet, with *position as it was, so that *position == count says that all was read.
- * No octet past the count is looked at. (What hub_save, hub_name, hub_on_air and hub_why write is an image, a name, an instance and a
- * text, not packets.)
+ * No octet past the count is looked at. (What hub_save, hub_upgrade, hub_downgrade, hub_name, hub_on_air and hub_why write is an image, a name, an
+ * instance and a text, not packets.)
  */
 static inline int hub_next_frame(const uint8_t *reply, size_t count, size_t *position, struct hub_frame *frame)
 {
@@ -220,16 +227,28 @@ uint64_t hub_plug(uint8_t *state, size_t state_len, uint64_t index, const uint8_
 uint64_t hub_unplug(uint8_t *state, size_t state_len, uint64_t index, uint8_t *reply, size_t reply_len);
 
 /*
- * Writes the image of the state to the reply buffer. Answers 0, or 8 where a controller that supports BR/EDR has it off, 4 or 5. Write it to a new file and
- * rename that over the old one.
+ * Writes the image of the state to the reply buffer, in version 2. Answers 0, 4 or 5. Write it to a new file and rename that over the old one.
  */
 uint64_t hub_save(const uint8_t *state, size_t state_len, uint8_t *reply, size_t reply_len);
 
 /*
- * Makes the state that an image describes; the six octets 00 00 00 06 01 00 make a fresh one. What the state buffer held does not matter; it is written
- * only if the whole image is acceptable. Nothing waits of a packet off the serial line then: the next octets lent to hub_stream begin one. Answers 0, 5 for a state buffer of another length, or 7.
+ * Makes the state that an image of version 1 or 2 describes; the six octets 00 00 00 06 02 00 make a fresh one, and so do 00 00 00 06 01 00. What the state
+ * buffer held does not matter; it is written only if the whole image is acceptable. Nothing waits of a packet off the serial line then: the next octets lent
+ * to hub_stream begin one. Answers 0, 5 for a state buffer of another length, or 7.
  */
 uint64_t hub_load(uint8_t *state, size_t state_len, const uint8_t *image, size_t image_len);
+
+/*
+ * Makes version 2 of an image of version 1, in the out buffer: what hub_save writes once the image is loaded. Octets of a name behind its first zero are
+ * dropped. Answers 0, 4 for an out buffer under HUB_IMAGE_MAX, or 7 for what is no acceptable image of version 1.
+ */
+uint64_t hub_upgrade(const uint8_t *image, size_t image_len, uint8_t *out, size_t out_len);
+
+/*
+ * Makes version 1 of an image of version 2, in the out buffer; zeros fill each name up. hub_upgrade makes the same image of version 2 of it again. Answers 0,
+ * 4 for an out buffer under HUB_IMAGE_MAX, 7 for what is no acceptable image of version 2, or 8 if the image has BR/EDR off at a controller that supports it.
+ */
+uint64_t hub_downgrade(const uint8_t *image, size_t image_len, uint8_t *out, size_t out_len);
 
 /*
  * Reads the name (0) or the short name (1) of the controller at an index: writes its octets up to the first zero, without it, at most 248 of them, none

@@ -1,5 +1,5 @@
 /*
- * What the tools share: octets of a file, and of hexadecimal digits.
+ * What the tools share: octets of a file, of hexadecimal digits, and of an image.
  */
 #ifndef OCTETS_H
 #define OCTETS_H
@@ -38,6 +38,12 @@ static inline int read_octets(const char *path, uint8_t *octets, size_t room, si
         fclose(file);
     errno = error;
     return error == 0;
+}
+
+/* The version of an image: its fifth octet, or 0 where it has none. */
+static inline unsigned image_version(const uint8_t *image, size_t length)
+{
+    return length > 4 ? image[4] : 0;
 }
 
 #endif

@@ -1,10 +1,14 @@
 //! The library of an earlier commit beside the library of this tree, in one run: `bench/run --before COMMIT`. The functions of the earlier one are
 //! linked as `before_hub_*`.
 //!
-//! States are made by commands or by the load of an image, in each library its own, since a request may change how a state is laid out. With one library
-//! on both sides most lines of the look-up differ by less than 3 ns, and most others by less than 2 in 100: such differences say nothing.
+//! States are made by commands or by the load of an image, in each library its own, since a request may change how a state is laid out. The image is of
+//! version 1, which every library takes. Version 2 and the moves are timed where the earlier library has them; `bench/run` looks whether it has the moves.
+//! With one library on both sides most lines of the look-up differ by less than 3 ns, and most others by less than 2 in 100: such differences say nothing.
 
 use crate::cases::{self, Case};
+use crate::images::version_1_of;
+#[cfg(before_moves)]
+use crate::images::{self, Move};
 use crate::look_up::{self, Linked, Place, NOW};
 use crate::states::{self, Lent};
 use crate::{image_of, least, least_of, turns, Data};
@@ -64,6 +68,12 @@ extern "C" {
     fn before_hub_save(state: *mut u8, state_len: usize, reply: *mut u8, reply_len: usize) -> u64;
     /// A state is made from an image.
     fn before_hub_load(state: *mut u8, state_len: usize, image: *const u8, image_len: usize) -> u64;
+    /// Version 1 to 2.
+    #[cfg(before_moves)]
+    fn before_hub_upgrade(image: *const u8, image_len: usize, out: *mut u8, out_len: usize) -> u64;
+    /// Version 2 to 1.
+    #[cfg(before_moves)]
+    fn before_hub_downgrade(image: *const u8, image_len: usize, out: *mut u8, out_len: usize) -> u64;
 }
 
 /// Any call but load, of the earlier library.
@@ -184,12 +194,13 @@ fn time(case: &Case, name: &str, both: &Both) {
     line(&format!("before_{}_{name}", case.name), a / each, b / each, more);
 }
 
-/// Times the test of a state, every case and the load, on the state that an image makes.
+/// Times the test of a state and every case, on the state that an image makes; then the load of that image in both versions, and the moves.
 fn all_cases(data: &Data, before: &Linked) {
-    let image = image_of(&data.state);
+    let two = image_of(&data.state);
+    let one = version_1_of(&two);
     let mut states = [before, &NOW].map(|library| vec![0; library.length]);
     let [a, b] = &mut states;
-    let loaded = [(before.load)(a, &image), (NOW.load)(b, &image)];
+    let loaded = [(before.load)(a, &one), (NOW.load)(b, &one)];
     if loaded != [0, 0] {
         return println!("before_{} has no lines: the image is loaded with answers {loaded:?}", data.name);
     }
@@ -198,12 +209,50 @@ fn all_cases(data: &Data, before: &Linked) {
         time(&case, &data.name, &Both::new(before, &states));
     }
     let both = Both::new(before, &states);
+    load_image(&format!("before_load_1_{}", data.name), &both, &one);
+    load_image(&format!("before_load_2_{}", data.name), &both, &two);
+    moves(&data.name, [&one, &two]);
+}
+
+/// Times the load of an image, where both libraries take it.
+fn load_image(name: &str, both: &Both, image: &[u8]) {
     let load = |which: usize| {
         let mut lent = both.lent(which).borrow_mut();
-        black_box((both.libraries[which].load)(black_box(lent.state()), black_box(&image)));
+        black_box((both.libraries[which].load)(black_box(lent.state()), black_box(image)))
     };
-    let [a, b] = least([&mut || load(0), &mut || load(1)]);
-    line(&format!("before_load_{}", data.name), a, b, "");
+    if [load(0), load(1)] == [0, 0] {
+        let [a, b] = least([&mut || _ = load(0), &mut || _ = load(1)]);
+        line(name, a, b, "");
+    }
+}
+
+/// The earlier library without the moves: there is nothing to time.
+#[cfg(not(before_moves))]
+fn moves(_: &str, _: [&[u8]; 2]) {}
+
+/// Times the moves of an image.
+#[cfg(before_moves)]
+fn moves(name: &str, [one, two]: [&[u8]; 2]) {
+    // As above: slices that do not overlap, for the time of the call.
+    let upgrade: Move =
+        |image, out| unsafe { before_hub_upgrade(image.as_ptr(), image.len(), out.as_mut_ptr(), out.len()) };
+    let downgrade: Move = |image, out| unsafe {
+        before_hub_downgrade(image.as_ptr(), image.len(), out.as_mut_ptr(), out.len())
+    };
+    for (word, image, [before, now]) in
+        [("upgrade", one, [upgrade, images::upgrade]), ("downgrade", two, [downgrade, images::downgrade])]
+    {
+        let (mut a, mut b) = (vec![0; 16_014], vec![0; 16_014]);
+        let more = if before(image, &mut a) == now(image, &mut b) && a == b {
+            ""
+        } else {
+            "; answered otherwise before"
+        };
+        let [a, b] = least([&mut || _ = black_box(before(black_box(image), black_box(&mut a))), &mut || {
+            _ = black_box(now(black_box(image), black_box(&mut b)))
+        }]);
+        line(&format!("before_{word}_{name}"), a, b, more);
+    }
 }
 
 /// Times clock steps on hubs with instances, if the earlier library takes the same octets for a state, or as many of them as its state has: where nothing

@@ -13,14 +13,18 @@
 //!
 //! The packets of a shift are timed as commands and off a serial line, whole and in lumps of 64, 7 and 1 octets; a lump of one octet beside the test of
 //! the state, of which it may take at most twice the time.
+//!
+//! Images of both versions are saved, loaded and moved, of a hub without records, of a usual one and of the largest; two lines tell how long they are.
 
 #[cfg(before)]
 mod before;
 mod cases;
+mod images;
 #[path = "../../tests/compare/src/library.rs"]
 mod library;
 mod look_up;
 mod plain;
+mod plain_image;
 mod states;
 mod stream;
 mod turns;
@@ -246,12 +250,15 @@ fn beside_plain(data: &[Data]) {
     test(&instances(), &mut seen);
     data.iter().for_each(|d| calls(d, &mut seen));
     data.iter().for_each(|d| load(d, &mut seen));
+    images::all(&mut seen);
+    images::lengths();
     look_up::all(&mut seen);
     turns::all(&mut seen);
     stream::all(&mut seen);
     data.iter().filter(|d| d.used == 32).for_each(judged_alike);
     judged_alike(&instances());
     switches_judged_alike();
+    images::judged_alike();
     stream::waiting_judged_alike();
     let (least, most) = seen.full;
     println!(

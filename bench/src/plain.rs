@@ -45,7 +45,7 @@ fn kept_of(whole: usize) -> usize {
     }
 }
 
-fn zero(o: &[u8]) -> bool {
+pub fn zero(o: &[u8]) -> bool {
     o.iter().all(|&x| x == 0)
 }
 
@@ -158,7 +158,7 @@ fn table(t: usize, region: &[u8], bredr: bool, le: bool) -> bool {
 }
 
 /// An address of six octets with both top bits set and the 46 bits below them not all alike.
-fn static_random(a: &[u8]) -> bool {
+pub fn static_random(a: &[u8]) -> bool {
     a[5] >= 0xC0 && a != [0, 0, 0, 0, 0, 0xC0] && a != [0xFF; 6]
 }
 
@@ -166,7 +166,7 @@ fn le_address(r: &[u8]) -> bool {
     r[6] == 1 || (r[6] == 2 && static_random(&r[..6]))
 }
 
-fn record(t: usize, r: &[u8]) -> bool {
+pub fn record(t: usize, r: &[u8]) -> bool {
     match t {
         0 => !zero(&r[..16]),
         1 => r[6] == 0 && r[7] <= 8,
@@ -177,7 +177,7 @@ fn record(t: usize, r: &[u8]) -> bool {
     }
 }
 
-fn same(t: usize, r: &[u8], q: &[u8]) -> bool {
+pub fn same(t: usize, r: &[u8], q: &[u8]) -> bool {
     match t {
         0 => r[..16] == q[..16],
         2 => r[..7] == q[..7] && r[8] == q[8],

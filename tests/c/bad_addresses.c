@@ -1,19 +1,23 @@
 /*
  * Static random addresses from C: the two that have both top bits set and a random part, the 46 bits below, of all 0 or all 1, and all neighbours of these
  * in one bit. Each is a static address and the address of a long term and of an identity resolving key, the first or the last one, in a command, in an
- * image and in a lent state. Of these 98 the two and their neighbours in the top bits are refused, with Invalid Parameters, 7 and 5, and nothing lent is
- * touched; the others are taken, and so is every one of an LE Public key. Three more lack a top bit, with bits of both kinds below it, and are refused too.
- * What is taken stands in the state where it has to, and all else there is as it was.
+ * image of either version, loaded and moved, and in a lent state. Of these 98 the two and their neighbours in the top bits are refused, with Invalid
+ * Parameters, 7 and 5, and nothing lent is touched; the others are taken, and so is every one of an LE Public key. Three more lack a top bit, with bits of
+ * both kinds below it, and are refused too. What is taken stands in the state where it has to, and all else there is as it was.
  */
 #include "lent.h"
 
-enum { INDEX = 1, KEYS = 3, INVALID_PARAMETERS = 0x0D, LE_PUBLIC = 1, LE_RANDOM = 2, NAME_LENGTH = 100 };
+enum { INDEX = 1, KEYS = 3, INVALID_PARAMETERS = 0x0D, LE_PUBLIC = 1, LE_RANDOM = 2, NAME_LENGTH = 100, SHORT_LENGTH = 10, NAMES = 30 };
 
 static uint8_t base[HUB_STATE_LEN];  /* a hub with one controller, three entries in each of its tables, as load makes it */
-static uint8_t image[HUB_IMAGE_MAX]; /* its image */
-static size_t image_length;
+static uint8_t image[HUB_IMAGE_MAX]; /* its image, and the same in version 1 */
+static uint8_t old_image[HUB_IMAGE_MAX];
+static size_t image_length, old_length;
 
 static const uint8_t alike[2][6] = { { 0, 0, 0, 0, 0, 0xC0 }, { 0xFF, 0xFF, 0xFF, 0xFF, 0xFF, 0xFF } };
+
+/* Where the tables begin in the image of each version. */
+enum { TABLES = NAMES + 1 + NAME_LENGTH + 1 + SHORT_LENGTH, OLD_TABLES = NAMES + 260 };
 
 /* Where an address goes: by which command, and from where on in its packet, in the image and in a block, in records of so many octets. */
 static const struct place {
@@ -22,8 +26,8 @@ static const struct place {
     size_t in_packet, in_image, in_block, record;
 } places[] = {
     { "static address", 0x002B, 6, 24, AT_STATIC, 0 },
-    { "long term key", 0x0013, 8, 290 + 1 + 17 * KEYS + 1 + 25 * KEYS + 1, AT_LONG_TERM, 36 },
-    { "identity resolving key", 0x0030, 8, 290 + 1 + 17 * KEYS + 1 + 25 * KEYS + 1 + 36 * KEYS + 1, AT_IDENTITY, 23 },
+    { "long term key", 0x0013, 8, TABLES + 1 + 17 * KEYS + 1 + 25 * KEYS + 1, AT_LONG_TERM, 36 },
+    { "identity resolving key", 0x0030, 8, TABLES + 1 + 17 * KEYS + 1 + 25 * KEYS + 1 + 36 * KEYS + 1, AT_IDENTITY, 23 },
 };
 
 /* One address that is tried: its place, which key it is there and of which type, and whether it is taken. */
@@ -80,19 +84,30 @@ static void try_command(const struct trial *trial, size_t number)
     take_back(state);
 }
 
-/* The image loads to the state that has the address; or it is answered 7. */
-static void try_image(const struct trial *trial, size_t number)
+/* The image of version 1 or 2 with the address in its place. */
+static struct lent lend_image(const struct trial *trial, int old)
 {
-    struct lent state = lend(HUB_STATE_LEN, NULL, 0), lent = lend(image_length, image, image_length);
-    uint64_t result;
-    put(trial, lent.octets + trial->place->in_image);
+    struct lent lent = old ? lend(old_length, old_image, old_length) : lend(image_length, image, image_length);
+    put(trial, lent.octets + trial->place->in_image + (old && trial->place->in_image > TABLES ? OLD_TABLES - TABLES : 0));
     memcpy(lent.before, lent.octets, lent.length);
-    result = hub_load(state.octets, state.length, lent.octets, lent.length);
+    return lent;
+}
+
+/* The image loads to the state that has the address, and is moved to the other version; or it is answered 7 by both. */
+static void try_image(const struct trial *trial, size_t number, int old)
+{
+    struct lent state = lend(HUB_STATE_LEN, NULL, 0), reply = lend(HUB_IMAGE_MAX, NULL, 0);
+    struct lent lent = lend_image(trial, old), other = lend_image(trial, !old);
+    const unsigned answer = trial->taken ? HUB_DONE : HUB_BAD_IMAGE;
+    uint64_t result = hub_load(state.octets, state.length, lent.octets, lent.length);
     if (trial->taken)
         memcpy(state.before, trial->state, HUB_STATE_LEN);
-    expect(trial->place->what, number, result, trial->taken ? HUB_DONE : HUB_BAD_IMAGE, &state, NULL, NULL, 0);
-    expect("image, as it was", number, HUB_DONE, HUB_DONE, &lent, NULL, NULL, 0);
+    expect(trial->place->what, number, result, answer, &state, NULL, NULL, 0);
+    result = (old ? hub_upgrade : hub_downgrade)(lent.octets, lent.length, reply.octets, reply.length);
+    expect("image, moved", number, result, answer, &lent, &reply, other.octets, trial->taken ? other.length : 0);
+    take_back(other);
     take_back(lent);
+    take_back(reply);
     take_back(state);
 }
 
@@ -137,7 +152,8 @@ static void try_address(const uint8_t *address, size_t number, int taken)
                 memcpy(trial.state, base, HUB_STATE_LEN);
                 put(&trial, trial.state + FIRST_BLOCK + BLOCK * INDEX + trial.place->in_block);
                 try_command(&trial, number);
-                try_image(&trial, number);
+                try_image(&trial, number, 0);
+                try_image(&trial, number, 1);
                 try_state(&trial, number);
             }
 }
@@ -156,6 +172,9 @@ static void make_base(void)
     result = hub_save(base, HUB_STATE_LEN, image, sizeof image);
     must("save", result, HUB_DONE);
     image_length = hub_count(result);
+    result = hub_downgrade(image, image_length, old_image, sizeof old_image);
+    must("the move to version 1", result, HUB_DONE);
+    old_length = hub_count(result);
     must("load", hub_load(base, HUB_STATE_LEN, image, image_length), HUB_DONE);
 }
 

@@ -1,12 +1,12 @@
 /*
  * Set BR/EDR from C: its values and lengths, where it is not supported, Busy and rejected, and what is refused for it; states whose BR/EDR octet has every
- * value at every controller, or does not fit the octets around it or the command under way; images with every flag; saves with BR/EDR off. Each call gets
- * exactly the number and the status that documents 01 and 02 give, writes nothing but a refusal's one reply, and leaves what was lent as it was. What is
- * taken changes the octets that it has to, and no other.
+ * value at every controller, or does not fit the octets around it or the command under way; images of both versions with every flag; saves with BR/EDR off.
+ * Each call gets exactly the number and the status that documents 01 and 02 give, writes nothing but a refusal's one reply, and leaves what was lent as it
+ * was. What is taken changes the octets that it has to, and no other.
  */
 #include "lent.h"
 
-enum { DUAL = 0, OFF = 1, CLASSIC = 2, LE = 3, ABSENT = 4, SET_BREDR = 0x002A, IN_IMAGE = 290, FLAGS = 6 + 14 };
+enum { DUAL = 0, OFF = 1, CLASSIC = 2, LE = 3, ABSENT = 4, SET_BREDR = 0x002A, FLAGS = 6 + 14 };
 enum { BUSY = 0x0A, REJECTED = 0x0B, NOT_SUPPORTED = 0x0C, INVALID_PARAMETERS = 0x0D, INVALID_INDEX = 0x11 };
 
 static uint8_t on[HUB_STATE_LEN];      /* dual-mode controllers at 0 and 1, at 2 one without LE, at 3 one without BR/EDR, as plug leaves them */
@@ -14,8 +14,10 @@ static uint8_t base[HUB_STATE_LEN];    /* the same with BR/EDR off at 1 */
 static uint8_t powered[HUB_STATE_LEN]; /* that with power */
 static uint8_t waiting[HUB_STATE_LEN]; /* that with Set Connectable under way at each */
 static uint8_t slow[HUB_STATE_LEN];    /* or with Set BR/EDR under way at 0 and 1 */
-static uint8_t image[HUB_IMAGE_MAX];   /* the image of the first */
-static size_t image_length;
+static uint8_t images[2][HUB_IMAGE_MAX]; /* the image of the first, in version 1 and in version 2 */
+static size_t lengths[2];
+
+static const size_t in_image[2] = { 290, 32 }; /* the octets of each controller there */
 
 /* The octet of a state at a place in a controller's block. */
 static uint8_t *octet(uint8_t *state, unsigned index, unsigned at)
@@ -233,39 +235,52 @@ static void try_states(void)
         }
 }
 
-/* Saves into buffers of seven lengths, with BR/EDR on or off at each of the two: 4 first, then 8, and nothing is written. */
+/* Saves into buffers of seven lengths, with BR/EDR on or off at each of the two, which the image says; moved back, one that has it off is answered 8. */
 static void try_saves(void)
 {
     static const size_t rooms[] = { 0, 1, HUB_REPLY_MIN, HUB_IMAGE_MAX - 1, HUB_IMAGE_MAX, HUB_IMAGE_MAX + 1, 20000 };
     for (unsigned off = 0; off < 4; off++)
         for (unsigned i = 0; i < 7; i++) {
-            struct lent state = lend(HUB_STATE_LEN, on, HUB_STATE_LEN), reply = lend(rooms[i], NULL, 0);
-            const unsigned answer = rooms[i] < HUB_IMAGE_MAX ? HUB_SMALL_BUFFER : off ? HUB_NOT_IN_IMAGE : HUB_DONE;
-            for (unsigned index = DUAL; index <= OFF; index++)
+            struct lent state = lend(HUB_STATE_LEN, on, HUB_STATE_LEN), reply = lend(rooms[i], NULL, 0), saved = lend(lengths[1], images[1], lengths[1]);
+            const unsigned answer = rooms[i] < HUB_IMAGE_MAX ? HUB_SMALL_BUFFER : HUB_DONE, back = answer == HUB_DONE && off ? HUB_NOT_IN_IMAGE : answer;
+            for (unsigned index = DUAL; index <= OFF; index++) {
+                const size_t at = FLAGS + in_image[1] * (size_t)index + 3;
                 *octet(state.octets, index, AT_BREDR) = *octet(state.before, index, AT_BREDR) = !(off >> index & 1);
-            expect("save", rooms[i], hub_save(state.octets, state.length, reply.octets, reply.length), answer, &state, &reply, image,
-                   answer == HUB_DONE ? image_length : 0);
+                saved.octets[at] = saved.before[at] = (uint8_t)(images[1][at] ^ (off >> index & 1) << 7);
+            }
+            expect("save", rooms[i], hub_save(state.octets, state.length, reply.octets, reply.length), answer, &state, &reply, saved.octets,
+                   answer == HUB_DONE ? saved.length : 0);
+            memset(reply.octets, FILLER, reply.length);
+            expect("moved back", rooms[i], hub_downgrade(saved.octets, saved.length, reply.octets, reply.length), back, &saved, &reply, images[0],
+                   back == HUB_DONE ? lengths[0] : 0);
             *octet(state.octets, LE, AT_BREDR) = *octet(state.before, LE, AT_BREDR) = 1;
             memset(reply.octets, FILLER, reply.length);
             expect("save", rooms[i], hub_save(state.octets, state.length, reply.octets, reply.length), HUB_BAD_STATE, &state, &reply, NULL, 0);
+            take_back(saved);
             take_back(reply);
             take_back(state);
         }
 }
 
-/* Images with each flag bit turned over at each controller: flag bit 7, and all others but 1, 4 and 9, are answered 7. */
-static void try_images(void)
+/* The place in a block of the setting with this bit. */
+static unsigned place_of(unsigned bit)
+{
+    return bit == 1 ? AT_CONNECTABLE : bit == 4 ? AT_DISCOVERABLE + 1 : bit == 7 ? AT_BREDR : AT_LOW_ENERGY;
+}
+
+/* Images of both versions with each flag bit turned over at each controller: all but 1, 4, 9 and, in version 2, 7 are answered 7. */
+static void try_images(unsigned version)
 {
     for (unsigned index = 0; index < 4; index++)
         for (unsigned bit = 0; bit < 32; bit++) {
-            struct lent state = lend(HUB_STATE_LEN, NULL, 0), lent = lend(image_length, image, image_length);
-            const int right = bit == 1 || bit == 4 || (bit == 9 && index <= OFF);
-            const size_t at = FLAGS + IN_IMAGE * (size_t)index + 3 - bit / 8;
+            struct lent state = lend(HUB_STATE_LEN, NULL, 0), lent = lend(lengths[version - 1], images[version - 1], lengths[version - 1]);
+            const int right = bit == 1 || bit == 4 || (index <= OFF && (bit == 9 || (bit == 7 && version == 2)));
+            const size_t at = FLAGS + in_image[version - 1] * (size_t)index + 3 - bit / 8;
             uint64_t result;
-            lent.octets[at] = lent.before[at] = (uint8_t)(image[at] ^ 1u << bit % 8);
+            lent.octets[at] = lent.before[at] = (uint8_t)(lent.octets[at] ^ 1u << bit % 8);
             memcpy(state.before, right ? on : state.octets, HUB_STATE_LEN);
             if (right)
-                *octet(state.before, index, bit == 1 ? AT_CONNECTABLE : bit == 4 ? AT_DISCOVERABLE + 1 : AT_LOW_ENERGY) ^= 1;
+                *octet(state.before, index, place_of(bit)) ^= 1;
             result = hub_load(state.octets, state.length, lent.octets, lent.length);
             expect("image", bit, result, right ? HUB_DONE : HUB_BAD_IMAGE, &state, NULL, NULL, 0);
             expect("image, as it was", bit, HUB_DONE, HUB_DONE, &lent, NULL, NULL, 0);
@@ -283,9 +298,12 @@ static void make_hubs(void)
     must("load", hub_load(on, HUB_STATE_LEN, empty, sizeof empty), HUB_DONE);
     for (unsigned index = 0; index < 4; index++)
         must("plug", hub_plug(on, HUB_STATE_LEN, index, address, 6, 9, 15, supported[index], reply, sizeof reply), HUB_DONE);
-    result = hub_save(on, HUB_STATE_LEN, image, sizeof image);
+    result = hub_save(on, HUB_STATE_LEN, images[1], sizeof images[1]);
     must("save", result, HUB_DONE);
-    image_length = hub_count(result);
+    lengths[1] = hub_count(result);
+    result = hub_downgrade(images[1], lengths[1], images[0], sizeof images[0]);
+    must("the move to version 1", result, HUB_DONE);
+    lengths[0] = hub_count(result);
     memcpy(base, on, HUB_STATE_LEN);
     must_send(base, set(SET_BREDR, OFF, 0), HUB_DONE);
     memcpy(powered, base, HUB_STATE_LEN);
@@ -309,7 +327,8 @@ int main(void)
     try_octets();
     try_states();
     try_saves();
-    try_images();
+    try_images(1);
+    try_images(2);
     printf("bad BR/EDR: %lu checks, %lu failures\n", tried, failures);
     return failures != 0;
 }

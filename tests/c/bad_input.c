@@ -1,6 +1,7 @@
 /*
  * Bad input from C: each call gets exactly the number that document 01 gives, in its order (5, then 4, then 3, 6 or 7), writes nothing but a refusal's
- * one reply, and leaves the state as it was. Names are asked for right and wrong. bad_advertising.c has what is bad input of advertising.
+ * one reply, and leaves the state as it was. Names are asked for right and wrong. bad_advertising.c has what is bad input of advertising, bad_images.c what is
+ * no image.
  *
  *     bad_input [STRIDE]      lengths away from the limits only every STRIDE-th time; every one if nothing is said
  */
@@ -10,8 +11,9 @@ enum { LONGEST = 70000, UNKNOWN_COMMAND = 0x01, NO_RESOURCES = 0x07, INVALID_PAR
 
 static uint8_t base[HUB_STATE_LEN];  /* the busy hub; commands are under way at 0, 1 and 2 */
 static uint8_t fresh[HUB_STATE_LEN]; /* a hub without controllers */
-static uint8_t image[HUB_IMAGE_MAX]; /* what the busy hub saves */
-static size_t image_length;
+static uint8_t image[HUB_IMAGE_MAX]; /* what the busy hub saves, and that in version 1 */
+static uint8_t old_image[HUB_IMAGE_MAX];
+static size_t image_length, old_length;
 
 static const uint8_t version[] = { 1, 0, 0xFF, 0xFF, 6, 0, 1, 0, 0, 1, 10, 0 };
 
@@ -127,6 +129,14 @@ static void try_reply_length(size_t length)
     expect("on air", length, hub_on_air(s, HUB_STATE_LEN, 4, r, length), small, &state, &reply, NULL, 0);
     expect("none on air", length, hub_on_air(s, HUB_STATE_LEN, 2, r, length), fits ? HUB_DONE : HUB_SMALL_BUFFER, &state, &reply, NULL, 0);
     expect("save", length, hub_save(s, HUB_STATE_LEN, r, length), saves ? HUB_DONE : HUB_SMALL_BUFFER, &state, &reply, image, saves ? image_length : 0);
+    if (length > 0)
+        memset(reply.octets, FILLER, length);
+    expect("downgrade", length, hub_downgrade(image, image_length, r, length), saves ? HUB_DONE : HUB_SMALL_BUFFER, &state, &reply, old_image,
+           saves ? old_length : 0);
+    if (length > 0)
+        memset(reply.octets, FILLER, length);
+    expect("upgrade", length, hub_upgrade(old_image, old_length, r, length), saves ? HUB_DONE : HUB_SMALL_BUFFER, &state, &reply, image,
+           saves ? image_length : 0);
     take_back(reply);
     take_back(state);
 }
@@ -195,13 +205,22 @@ static void try_plugs(void)
     take_back(state);
 }
 
-/* The first octets of an image, or the image with some behind it, into a buffer that holds anything: 7. */
+/* The first octets of an image of either version, or the image with some behind it: 7, from load into a buffer that holds anything, and from a move. */
 static void try_image_length(size_t length)
 {
-    struct lent state = lend(HUB_STATE_LEN, NULL, 0), cut = lend(length, image, image_length);
-    if (length != image_length)
+    struct lent state = lend(HUB_STATE_LEN, NULL, 0), reply = lend(HUB_IMAGE_MAX, NULL, 0);
+    struct lent cut = lend(length, image, image_length), old = lend(length, old_image, old_length);
+    if (length != image_length) {
         expect("image length", length, hub_load(state.octets, state.length, cut.octets, length), HUB_BAD_IMAGE, &state, NULL, NULL, 0);
+        expect("image length", length, hub_downgrade(cut.octets, length, reply.octets, reply.length), HUB_BAD_IMAGE, &cut, &reply, NULL, 0);
+    }
+    if (length != old_length) {
+        expect("image length", length, hub_load(state.octets, state.length, old.octets, length), HUB_BAD_IMAGE, &state, NULL, NULL, 0);
+        expect("image length", length, hub_upgrade(old.octets, length, reply.octets, reply.length), HUB_BAD_IMAGE, &old, &reply, NULL, 0);
+    }
+    take_back(old);
     take_back(cut);
+    take_back(reply);
     take_back(state);
 }
 
@@ -222,6 +241,9 @@ int main(int argc, char **argv)
     result = hub_save(base, HUB_STATE_LEN, image, sizeof image);
     must("save", result, HUB_DONE);
     image_length = hub_count(result);
+    result = hub_downgrade(image, image_length, old_image, sizeof old_image);
+    must("the move to version 1", result, HUB_DONE);
+    old_length = hub_count(result);
     must("load", hub_load(fresh, HUB_STATE_LEN, empty, sizeof empty), HUB_DONE);
     try_lengths(try_packet_length, 0, 40, 1);
     try_lengths(try_packet_length, 41, 65499, stride);
@@ -235,7 +257,7 @@ int main(int argc, char **argv)
     try_names(base);
     try_names(fresh);
     try_plugs();
-    try_lengths(try_image_length, 0, image_length + 300, stride);
+    try_lengths(try_image_length, 0, old_length + 300, stride);
     printf("bad input: %lu checks, %lu failures\n", tried, failures);
     return failures != 0;
 }

@@ -1,7 +1,7 @@
 /*
  * The library with nothing but itself: no C library, no start files, two functions supplied here. A fresh hub is loaded, tells its version, as a packet and
- * in two lumps off the serial line, that it would take that command, that nothing is on air and that a device is in no slot, and refuses an image; the
- * program ends by a system call with the number of octets of the version's reply, 12, or with what went wrong.
+ * in two lumps off the serial line, that it would take that command, that nothing is on air and that a device is in no slot, and refuses an image; one that
+ * it saves is moved to version 1 and back. The program ends by a system call with the number of octets of the version's reply, 12, or with what went wrong.
  *
  *     gcc -ffreestanding -nostdlib -static bare.c libhub.a
  */
@@ -28,11 +28,11 @@ void *memset(void *to, int octet, size_t count)
     return to;
 }
 
-static uint8_t state[HUB_STATE_LEN], reply[HUB_IMAGE_MAX];
+static uint8_t state[HUB_STATE_LEN], reply[HUB_IMAGE_MAX], other[HUB_IMAGE_MAX];
 
 static unsigned run(void)
 {
-    static const uint8_t fresh[] = { 0, 0, 0, 6, 1, 0 }, later[] = { 0, 0, 0, 6, 2, 0 }, version[] = { 1, 0, 0xFF, 0xFF, 0, 0 };
+    static const uint8_t fresh[] = { 0, 0, 0, 6, 1, 0 }, later[] = { 0, 0, 0, 6, 3, 0 }, version[] = { 1, 0, 0xFF, 0xFF, 0, 0 };
     static const uint8_t address[7] = { 1, 2, 3, 4, 5, 6, 1 };
     uint64_t result;
     if (hub_answer(hub_load(state, sizeof state, fresh, sizeof fresh)) != HUB_DONE)
@@ -51,6 +51,10 @@ static unsigned run(void)
     result = hub_save(state, sizeof state, reply, sizeof reply);
     if (hub_answer(result) != HUB_DONE || hub_answer(hub_load(state, sizeof state, reply, hub_count(result))) != HUB_DONE)
         return 103;
+    if (hub_downgrade(reply, hub_count(result), other, sizeof other) != HUB_DONE + 256u * 296)
+        return 110;
+    if (hub_upgrade(other, 296, reply, sizeof reply) != result)
+        return 111;
     if (hub_answer(hub_stream(state, sizeof state, version, 4, reply, HUB_REPLY_MIN)) != HUB_INCOMPLETE)
         return 108;
     result = hub_stream(state, sizeof state, version + 4, 2, reply, HUB_REPLY_MIN);

@@ -7,7 +7,7 @@
 #include "hub.h"
 
 static uint8_t state[HUB_STATE_LEN + 1];
-static uint8_t reply[HUB_IMAGE_MAX];
+static uint8_t reply[HUB_IMAGE_MAX], moved[HUB_IMAGE_MAX];
 static const uint8_t empty[] = { 0, 0, 0, 6, 1, 0 };
 static const uint8_t version[] = { 1, 0, 0xFF, 0xFF, 0, 0 }, commands[] = { 2, 0, 0xFF, 0xFF, 0, 0 };
 static const uint8_t address[6] = { 1, 2, 3, 4, 5, 6 }, unknown[6] = { 0x08 };
@@ -63,17 +63,32 @@ static void look_up(void)
     expect("no slot in a number", hub_slot((uint64_t)0x0120 << 32), HUB_SLOTS);
 }
 
-/* A save while controller 3 has BR/EDR turned off, and one with it on again. */
+/* The image with BR/EDR off at controller 3, which version 1 has no place for; with it on again it is moved there, in the room of the longest image. */
 static void not_in_image(void)
 {
     uint8_t packet[7] = { 0x2A, 0, 3, 0, 1, 0, 0 };
+    uint64_t result;
     expect("BR/EDR off", hub_answer(hub_command(state, HUB_STATE_LEN, packet, sizeof packet, reply, HUB_REPLY_MIN)), HUB_DONE);
-    expect("image one octet short, BR/EDR off", hub_answer(hub_save(state, HUB_STATE_LEN, reply, HUB_IMAGE_MAX - 1)), HUB_SMALL_BUFFER);
-    expect("save, BR/EDR off", (unsigned)hub_save(state, HUB_STATE_LEN, reply, HUB_IMAGE_MAX), HUB_NOT_IN_IMAGE);
+    result = hub_save(state, HUB_STATE_LEN, reply, HUB_IMAGE_MAX);
+    expect("save, BR/EDR off", hub_answer(result), HUB_DONE);
+    expect("its move to version 1", (unsigned)hub_downgrade(reply, hub_count(result), moved, HUB_IMAGE_MAX), HUB_NOT_IN_IMAGE);
     expect("its number", HUB_NOT_IN_IMAGE, 8);
     packet[6] = 1;
     expect("BR/EDR on", hub_answer(hub_command(state, HUB_STATE_LEN, packet, sizeof packet, reply, HUB_REPLY_MIN)), HUB_DONE);
-    expect("save, BR/EDR on", hub_answer(hub_save(state, HUB_STATE_LEN, reply, HUB_IMAGE_MAX)), HUB_DONE);
+    result = hub_save(state, HUB_STATE_LEN, reply, HUB_IMAGE_MAX);
+    expect("save, BR/EDR on", hub_answer(result), HUB_DONE);
+    expect("its version", reply[4], 2);
+    expect("its move, one octet short", (unsigned)hub_downgrade(reply, hub_count(result), moved, HUB_IMAGE_MAX - 1), HUB_SMALL_BUFFER);
+    expect("its move to version 2", (unsigned)hub_upgrade(reply, hub_count(result), moved, HUB_IMAGE_MAX), HUB_BAD_IMAGE);
+    result = hub_downgrade(reply, hub_count(result), moved, HUB_IMAGE_MAX);
+    expect("its move to version 1", hub_answer(result), HUB_DONE);
+    expect("its version there", moved[4], 1);
+    expect("the second number of a move", hub_extra(result), 0);
+    result = hub_upgrade(empty, sizeof empty, moved, HUB_IMAGE_MAX);
+    expect("the empty image in version 2", hub_answer(result), HUB_DONE);
+    expect("its octets", (unsigned)hub_count(result), 6);
+    expect("its version there", moved[4], 2);
+    expect("the same, one octet short", (unsigned)hub_upgrade(empty, sizeof empty, moved, HUB_IMAGE_MAX - 1), HUB_SMALL_BUFFER);
 }
 
 /* Read Version off the serial line: five octets, no room, the sixth with another behind it. */
@@ -95,15 +110,18 @@ static void stream(void)
     expect("no octets", (unsigned)hub_stream(state, HUB_STATE_LEN, NULL, 0, reply, HUB_REPLY_MIN), HUB_INCOMPLETE);
 }
 
-int main(void)
+/* Loads of states and images, and commands that read, with one octet too few and with enough. */
+static void load_and_read(void)
 {
     uint8_t changed[sizeof empty];
     uint64_t result;
     expect("state one octet short", hub_answer(hub_load(state, HUB_STATE_LEN - 1, empty, sizeof empty)), HUB_BAD_STATE);
     expect("state one octet long", hub_answer(hub_load(state, HUB_STATE_LEN + 1, empty, sizeof empty)), HUB_BAD_STATE);
     memcpy(changed, empty, sizeof empty);
-    changed[4] = 2;
+    changed[4] = 3;
     expect("image of another version", hub_answer(hub_load(state, HUB_STATE_LEN, changed, sizeof changed)), HUB_BAD_IMAGE);
+    changed[4] = 2;
+    expect("empty image of version 2", hub_answer(hub_load(state, HUB_STATE_LEN, changed, sizeof changed)), HUB_DONE);
     expect("empty image", hub_answer(hub_load(state, HUB_STATE_LEN, empty, sizeof empty)), HUB_DONE);
     expect("reply one octet short", hub_answer(hub_command(state, HUB_STATE_LEN, version, 6, reply, HUB_REPLY_MIN - 1)), HUB_SMALL_BUFFER);
     result = hub_command(state, HUB_STATE_LEN, version, 6, reply, HUB_REPLY_MIN);
@@ -115,6 +133,12 @@ int main(void)
     expect("its commands", reply[9], 22);
     expect("its events", reply[11], 12);
     expect("five octets", hub_answer(hub_command(state, HUB_STATE_LEN, version, 5, reply, HUB_REPLY_MIN)), HUB_BAD_PACKET);
+}
+
+/* Save, and calls at an index: absent, and plugged with 3. */
+static void save_and_plug(void)
+{
+    uint64_t result;
     expect("image one octet short", hub_answer(hub_save(state, HUB_STATE_LEN, reply, HUB_IMAGE_MAX - 1)), HUB_SMALL_BUFFER);
     expect("save", hub_answer(hub_save(state, HUB_STATE_LEN, reply, HUB_IMAGE_MAX)), HUB_DONE);
     expect("unplug of an absent index", hub_answer(hub_unplug(state, HUB_STATE_LEN, 0, reply, HUB_REPLY_MIN)), HUB_BAD_ARGUMENT);
@@ -125,6 +149,12 @@ int main(void)
     expect("on air", hub_answer(result), HUB_DONE);
     expect("its count", (unsigned)hub_count(result), 0);
     expect("on air, reply one octet short", hub_answer(hub_on_air(state, HUB_STATE_LEN, 3, reply, HUB_REPLY_MIN - 1)), HUB_SMALL_BUFFER);
+}
+
+int main(void)
+{
+    load_and_read();
+    save_and_plug();
     not_in_image();
     why();
     look_up();

@@ -8,11 +8,11 @@
 
 #include "busy.h"
 
-enum { PAGE = 4096, ROOM = 8 * PAGE, BUFFERS = 4, ENTRIES = 12, TEXT = 256 };
+enum { PAGE = 4096, ROOM = 8 * PAGE, BUFFERS = 4, UPGRADE = 12, DOWNGRADE = 13, ENTRIES = 14, TEXT = 256 };
 
 static uint8_t *pages[BUFFERS]; /* of each the first and the last page may not be touched */
-static uint8_t base[HUB_STATE_LEN], image[HUB_IMAGE_MAX];
-static size_t image_length;
+static uint8_t base[HUB_STATE_LEN], image[HUB_IMAGE_MAX], old_image[HUB_IMAGE_MAX]; /* the busy hub and its image, in version 2 and in version 1 */
+static size_t image_length, old_length;
 static unsigned long tried, failures, copies;
 
 void *__real_memcpy(void *to, const void *from, size_t count);
@@ -51,7 +51,7 @@ static uint8_t *place(int buffer, size_t length, int at_end)
     return at_end ? pages[buffer] + ROOM - PAGE - length : pages[buffer] + PAGE;
 }
 
-/* One of twelve calls. The octets are those of a packet, an address, an image, a key or a lump. */
+/* One of fourteen calls. The octets are those of a packet, an address, an image, a key or a lump. The last two are lent no state. */
 static uint64_t call(int which, uint8_t *state, size_t state_len, const uint8_t *octets, size_t octets_len, uint8_t *reply, size_t reply_len)
 {
     switch (which) {
@@ -65,6 +65,8 @@ static uint64_t call(int which, uint8_t *state, size_t state_len, const uint8_t 
     case 8: return hub_on_air(state, state_len, 3, reply, reply_len);
     case 9: return hub_why(state, state_len, octets, octets_len, reply, reply_len);
     case 11: return hub_stream(state, state_len, octets, octets_len, reply, reply_len);
+    case UPGRADE: return hub_upgrade(octets, octets_len, reply, reply_len);
+    case DOWNGRADE: return hub_downgrade(octets, octets_len, reply, reply_len);
     case 10: return hub_look_up(state, state_len, 0, octets_len == 16 ? HUB_UUIDS : HUB_DEVICES, octets, octets_len);
     default: return hub_load(state, state_len, octets, octets_len);
     }
@@ -74,8 +76,9 @@ static uint64_t call(int which, uint8_t *state, size_t state_len, const uint8_t 
 static unsigned wanted(int which, int no_state, int no_octets, int no_reply)
 {
     static const unsigned refusals[ENTRIES] = { HUB_BAD_PACKET, HUB_DONE, HUB_DONE, HUB_DONE, HUB_BAD_ARGUMENT,
-                                                HUB_DONE, HUB_BAD_IMAGE, HUB_DONE, HUB_DONE, HUB_BAD_PACKET, HUB_BAD_ARGUMENT, HUB_INCOMPLETE };
-    if (no_state)
+                                                HUB_DONE, HUB_BAD_IMAGE, HUB_DONE, HUB_DONE, HUB_BAD_PACKET, HUB_BAD_ARGUMENT, HUB_INCOMPLETE,
+                                                HUB_BAD_IMAGE, HUB_BAD_IMAGE };
+    if (no_state && which < UPGRADE)
         return HUB_BAD_STATE;
     if (no_reply && which != 6 && which != 10)
         return HUB_SMALL_BUFFER;
@@ -91,8 +94,9 @@ static void no_octets(int null)
     for (int which = 0; which < ENTRIES; which++)
         for (int mask = 0; mask < 8; mask++) {
             const uint8_t *octets = which == 0 || which == 9 || which == 11 ? version : which == 4 || which == 10 ? address : image;
-            size_t length = which == 6 ? image_length : which == 10 ? 7 : 6;
+            size_t length = which == 6 || which == DOWNGRADE ? image_length : which == UPGRADE ? old_length : which == 10 ? 7 : 6;
             uint64_t result;
+            octets = which == UPGRADE ? old_image : octets;
             memcpy(state, base, sizeof state);
             if (which == 4)
                 must("unplug", hub_unplug(state, sizeof state, 1, reply, sizeof reply), HUB_DONE);
@@ -123,12 +127,12 @@ static void packet_of(struct packet *packet, unsigned k)
     }
 }
 
-enum { PACKETS = 14, KEYS = 8, LUMPS = 4, OTHERS = 2 * PACKETS + KEYS + LUMPS, CALLS = OTHERS + 8 };
+enum { PACKETS = 14, KEYS = 8, LUMPS = 4, MOVES = 2, BEFORE = 2 * PACKETS + KEYS + LUMPS, OTHERS = BEFORE + MOVES, CALLS = OTHERS + 8 };
 
 /* The reply or text buffer that call k of a shift has; load has none. */
 static size_t room_of(unsigned k)
 {
-    return k == CALLS - 2 ? HUB_IMAGE_MAX : k < PACKETS ? TEXT : HUB_REPLY_MIN;
+    return k == CALLS - 2 || (k >= BEFORE && k < OTHERS) ? HUB_IMAGE_MAX : k < PACKETS ? TEXT : HUB_REPLY_MIN;
 }
 
 /* Looks for key k: the first, the last and one that is absent, of devices and of UUIDs; then with an octet less and more, which is no key. */
@@ -155,7 +159,15 @@ static uint64_t lump(unsigned k, uint8_t *state, uint8_t *octets, uint8_t *room)
     return call(11, state, HUB_STATE_LEN, octets - lengths[k], lengths[k], room, HUB_REPLY_MIN);
 }
 
-/* Call k of a shift, each packet first asked about and then given, then keys and lumps; what is lent ends at the places that are given for it. */
+/* Moves the image of version 1 or that of version 2, which ends at a place. */
+static uint64_t move(int upgrade, uint8_t *octets, uint8_t *room)
+{
+    const size_t length = upgrade ? old_length : image_length;
+    memcpy(octets - length, upgrade ? old_image : image, length);
+    return call(upgrade ? UPGRADE : DOWNGRADE, NULL, 0, octets - length, length, room, HUB_IMAGE_MAX);
+}
+
+/* Call k of a shift, each packet first asked about and then given, then keys, lumps and moves; what is lent ends at the places that are given for it. */
 static uint64_t one(unsigned k, uint8_t *state, uint8_t *octets, uint8_t *reply)
 {
     struct packet packet;
@@ -167,8 +179,10 @@ static uint64_t one(unsigned k, uint8_t *state, uint8_t *octets, uint8_t *reply)
     }
     if (k < 2 * PACKETS + KEYS)
         return look(k - 2 * PACKETS, state, octets);
-    if (k < OTHERS)
+    if (k < BEFORE)
         return lump(k - 2 * PACKETS - KEYS, state, octets, room);
+    if (k < OTHERS)
+        return move(k == BEFORE, octets, room);
     if (k == CALLS - 1) {
         memcpy(octets - image_length, image, image_length);
         return call(6, state, HUB_STATE_LEN, octets - image_length, image_length, NULL, 0);
@@ -249,9 +263,30 @@ static void at_start(void)
     }
     memcpy(octets, image, image_length);
     expect("load at the start", 0, hub_answer(call(6, state, HUB_STATE_LEN, octets, image_length, NULL, 0)) == HUB_DONE);
+    expect("downgrade at the start", 0, call(DOWNGRADE, NULL, 0, octets, image_length, reply, HUB_IMAGE_MAX) == HUB_DONE + 256 * (uint64_t)old_length);
+    memcpy(octets, old_image, old_length);
+    expect("upgrade at the start", 0, call(UPGRADE, NULL, 0, octets, old_length, reply, HUB_IMAGE_MAX) == HUB_DONE + 256 * (uint64_t)image_length);
     memcpy(state, base, HUB_STATE_LEN);
     expect("on air at the start", 0, hub_answer(call(8, state, HUB_STATE_LEN, NULL, 0, reply, HUB_REPLY_MIN)) == HUB_DONE);
     expect("save at the start", 0, hub_answer(call(5, state, HUB_STATE_LEN, NULL, 0, reply, HUB_IMAGE_MAX)) == HUB_DONE);
+}
+
+/* The first octets of an image, right before a page that may not be touched: no call looks behind them. */
+static void cuts(const uint8_t *whole, size_t length)
+{
+    uint8_t *state = place(3, HUB_STATE_LEN, 1), *reply = place(2, HUB_IMAGE_MAX, 1);
+    for (size_t k = 0; k < length; k += k < 400 ? 1 : 37)
+        for (int right = 0; right < 2; right++) {
+            uint8_t *octets = place(1, k, 1);
+            memcpy(octets, whole, k);
+            if (right && k >= 4) {
+                octets[2] = (uint8_t)(k >> 8);
+                octets[3] = (uint8_t)k;
+            }
+            expect("load of a cut image", k, call(6, state, HUB_STATE_LEN, octets, k, NULL, 0) == HUB_BAD_IMAGE);
+            expect("upgrade of a cut image", k, call(UPGRADE, NULL, 0, octets, k, reply, HUB_IMAGE_MAX) == HUB_BAD_IMAGE);
+            expect("downgrade of a cut image", k, call(DOWNGRADE, NULL, 0, octets, k, reply, HUB_IMAGE_MAX) == HUB_BAD_IMAGE);
+        }
 }
 
 int main(void)
@@ -263,6 +298,9 @@ int main(void)
     }
     make_busy(base);
     image_length = hub_count(hub_save(base, sizeof base, image, sizeof image));
+    old_length = hub_count(hub_downgrade(image, image_length, old_image, sizeof old_image));
+    cuts(image, image_length);
+    cuts(old_image, old_length);
     no_octets(1);
     no_octets(0);
     alignments();

@@ -1,7 +1,7 @@
 /*
  * Every change of one octet of a busy state, to eight values with one bit flipped, 0 and 0xFF: the changed state is lent to command, report, clock,
  * unplug, save, on air, why, look-up and stream. Each either answers 5 and writes nothing, or gives another answer of its own inside its buffers. All nine
- * answer 5, or none does.
+ * answer 5, or none does. What is saved loads, and is moved to version 1 and back, or answered 8 there.
  *
  *     one_octet [STRIDE [FIRST]]      only every STRIDE-th octet, from FIRST on; every one if nothing is said
  */
@@ -14,6 +14,7 @@ static const char *const call_names[CALLS] = { "command", "report", "clock", "un
 static uint8_t *base, *changed;       /* the busy state, and that with one octet changed */
 static uint8_t *state, *reply, *room; /* what is lent, each as long as it must be and no longer: state, reply, save's reply */
 static uint8_t *filler;               /* what a reply buffer holds before a call */
+static uint8_t *other, *again;        /* a saved image in version 1, and moved to version 2 again */
 static struct packet packets[4][COMMANDS];
 static uint8_t line[WHOLE];           /* what comes in off the serial line: the rest of the list that is coming in, and of it again from the start */
 static unsigned long changes, not_well_formed, taken, failures;
@@ -104,8 +105,6 @@ static int may_answer(int call, unsigned answer)
         return call == COMMAND || call == STREAM;
     case HUB_INCOMPLETE:
         return call == STREAM;
-    case HUB_NOT_IN_IMAGE:
-        return call == SAVE;
     case HUB_BAD_ARGUMENT:
         return call == REPORT || call == CLOCK || call == UNPLUG || call == ON_AIR || call == LOOK_UP;
     default:
@@ -128,11 +127,24 @@ static int may_give(int call, uint64_t result)
     return hub_walked(result) <= HUB_SLOTS && (hub_slot(result) == HUB_SLOTS || hub_slot(result) + 1 == hub_walked(result));
 }
 
-/* Whether the state is one that save takes, be there an image of it or not. */
+/* Whether the state is one that save takes. */
 static int saved(void)
 {
-    unsigned answer = hub_answer(hub_save(state, HUB_STATE_LEN, room, HUB_IMAGE_MAX));
-    return answer == HUB_DONE || answer == HUB_NOT_IN_IMAGE;
+    return hub_answer(hub_save(state, HUB_STATE_LEN, room, HUB_IMAGE_MAX)) == HUB_DONE;
+}
+
+/* Whether a saved image of so many octets loads, and is moved to version 1 and back to the same octets, or answered 8 there. */
+static int is_image(size_t length)
+{
+    uint64_t result = hub_downgrade(room, length, other, HUB_IMAGE_MAX);
+    if (hub_answer(hub_load(state, HUB_STATE_LEN, room, length)) != HUB_DONE)
+        return 0;
+    if (hub_answer(result) == HUB_NOT_IN_IMAGE)
+        return 1;
+    if (hub_answer(result) != HUB_DONE)
+        return 0;
+    result = hub_upgrade(other, hub_count(result), again, HUB_IMAGE_MAX);
+    return result == HUB_DONE + 256 * (uint64_t)length && memcmp(again, room, length) == 0;
 }
 
 /* What is wrong with a call's result and with what it left, or null. */
@@ -154,8 +166,8 @@ static const char *fault(int call, uint64_t result)
         return "what waits changed by a call that is no lump";
     if ((!same || waits) && !saved())
         return "a state left that the next call does not take";
-    if (answer == HUB_DONE && call == SAVE && hub_answer(hub_load(state, HUB_STATE_LEN, room, count)) != HUB_DONE)
-        return "an image that cannot be loaded";
+    if (answer == HUB_DONE && call == SAVE && !is_image(count))
+        return "an image that cannot be loaded, or not moved";
     return NULL;
 }
 
@@ -206,7 +218,9 @@ int main(int argc, char **argv)
     reply = malloc(HUB_REPLY_MIN);
     room = malloc(HUB_IMAGE_MAX);
     filler = malloc(HUB_IMAGE_MAX);
-    if (!base || !changed || !state || !reply || !room || !filler || stride == 0)
+    other = malloc(HUB_IMAGE_MAX);
+    again = malloc(HUB_IMAGE_MAX);
+    if (!base || !changed || !state || !reply || !room || !filler || !other || !again || stride == 0)
         return EXIT_FAILURE;
     memset(filler, FILLER, HUB_IMAGE_MAX);
     for (unsigned index = 0; index < 4; index++)
@@ -225,5 +239,7 @@ int main(int argc, char **argv)
     free(reply);
     free(room);
     free(filler);
+    free(other);
+    free(again);
     return failures != 0 || not_well_formed == 0 || taken == 0;
 }

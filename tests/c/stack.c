@@ -9,7 +9,7 @@ enum { DEEP = 1 << 16, PATTERN = 0xA5, ON_STACK = 4 };
 typedef void (*entry)(void); /* any of them */
 
 static _Alignas(16) uint8_t stack[DEEP + 8 * ON_STACK];
-static uint8_t base[HUB_STATE_LEN], state[HUB_STATE_LEN], reply[HUB_IMAGE_MAX], image[HUB_IMAGE_MAX];
+static uint8_t base[HUB_STATE_LEN], state[HUB_STATE_LEN], reply[HUB_IMAGE_MAX], image[HUB_IMAGE_MAX], old[HUB_IMAGE_MAX];
 
 /* A pointer or a number as an argument. */
 #define ARG(x) ((uint64_t)(uintptr_t)(x))
@@ -171,6 +171,19 @@ static unsigned lumps(void)
     return most(worst, takes((entry)hub_stream, args, HUB_REFUSED));
 }
 
+/* Both moves of the busy hub's image, and of one that is refused at its last octet; the load of both versions. */
+static void moves(size_t length)
+{
+    const uint64_t moved = hub_downgrade(image, length, old, sizeof old);
+    uint64_t upgrade[10] = { ARG(old), hub_count(moved), ARG(reply), HUB_IMAGE_MAX }, downgrade[10] = { ARG(image), length, ARG(reply), HUB_IMAGE_MAX };
+    uint64_t load[10] = { ARG(state), HUB_STATE_LEN, ARG(image), length }, first[10] = { ARG(state), HUB_STATE_LEN, ARG(old), hub_count(moved) };
+    unsigned up = takes((entry)hub_upgrade, upgrade, HUB_DONE), down = takes((entry)hub_downgrade, downgrade, HUB_DONE);
+    printf("hub_load %u\n", most(takes((entry)hub_load, load, HUB_DONE), takes((entry)hub_load, first, HUB_DONE)));
+    old[hub_count(moved) - 1] = image[length - 1] = 0xFF;
+    printf("hub_upgrade %u\n", most(up, takes((entry)hub_upgrade, upgrade, HUB_BAD_IMAGE)));
+    printf("hub_downgrade %u\n", most(down, takes((entry)hub_downgrade, downgrade, HUB_BAD_IMAGE)));
+}
+
 /* Everything else. */
 static void others(void)
 {
@@ -183,19 +196,17 @@ static void others(void)
     uint64_t save[10] = { ARG(state), HUB_STATE_LEN, ARG(reply), HUB_IMAGE_MAX };
     uint64_t name[10] = { ARG(state), HUB_STATE_LEN, 0, 0, ARG(reply), HUB_REPLY_MIN };
     uint64_t on_air[10] = { ARG(state), HUB_STATE_LEN, 3, ARG(reply), HUB_REPLY_MIN };
-    uint64_t load[10] = { ARG(state), HUB_STATE_LEN, ARG(image), 0 };
     for (report[2] = 0; report[2] < 3; report[2]++)
         worst = most((unsigned)worst, takes((entry)hub_report, report, HUB_DONE));
     printf("hub_report %u\n", (unsigned)worst);
     printf("hub_clock %u\n", most(takes((entry)hub_clock, clock, HUB_DONE), takes((entry)hub_clock, longest, HUB_DONE)));
     printf("hub_unplug %u\n", takes((entry)hub_unplug, unplug, HUB_DONE));
-    load[3] = hub_count(hub_save(base, sizeof base, image, sizeof image));
     printf("hub_save %u\n", takes((entry)hub_save, save, HUB_DONE));
     printf("hub_name %u\n", takes((entry)hub_name, name, HUB_DONE));
     printf("hub_on_air %u\n", takes((entry)hub_on_air, on_air, HUB_DONE));
     printf("hub_why %u\n", whys());
     printf("hub_look_up %u\n", look_ups());
-    printf("hub_load %u\n", takes((entry)hub_load, load, HUB_DONE));
+    moves(hub_count(hub_save(base, sizeof base, image, sizeof image)));
     must("unplug", hub_unplug(base, sizeof base, 1, reply, sizeof reply), HUB_DONE);
     printf("hub_plug %u\n", takes((entry)hub_plug, plug, HUB_DONE));
 }

@@ -1,8 +1,8 @@
 /*
  * The longest time that a call takes: on a hub with four controllers, all 768 records and all 20 advertising instances, the records of a table alike
- * but for one octet, which is each octet in turn. Clock steps up to the longest and lumps with the longest packet are among the calls. A call's time is the
- * least of many tries, spread over the whole run so that a slow moment of the machine is not the call's; an entry's is the most over its calls and over the
- * hubs.
+ * but for one octet, which is each octet in turn. Clock steps up to the longest, lumps with the longest packet and the longest image of both versions are
+ * among the calls. A call's time is the least of many tries, spread over the whole run so that a slow moment of the machine is not the call's; an entry's is
+ * the most over its calls and over the hubs.
  *
  *     worst_time [LIMIT]      prints a line 'NAME MICROSECONDS' for each entry; the exit code is 1 if one took more than LIMIT microseconds
  */
@@ -11,12 +11,12 @@
 
 #include "busy.h"
 
-enum { WHY = 9, LOOK_UP = 10, STREAM = 11, ENTRIES = 12 };
-enum { ROUNDS = 8, TRIES = 25, OCTETS = 16, COMMANDS = 22, LUMPS = 4, INPUTS = 34 + COMMANDS + 3 + 12 + LUMPS };
+enum { LOAD = 6, WHY = 9, LOOK_UP = 10, STREAM = 11, UPGRADE = 12, DOWNGRADE = 13, ENTRIES = 14 };
+enum { ROUNDS = 8, TRIES = 25, OCTETS = 16, COMMANDS = 22, LUMPS = 4, INPUTS = 34 + COMMANDS + 3 + 12 + LUMPS + 3 };
 
 /*
  * A call: an entry by its number, a packet for a command and for the question why, a key with its table for a look-up, a reading for the clock, or an index; a
- * lump by its number.
+ * lump by its number; of load the version.
  */
 struct input {
     int entry;
@@ -25,9 +25,11 @@ struct input {
 };
 
 static const char *const names[ENTRIES] = { "hub_command", "hub_report", "hub_clock",  "hub_plug", "hub_unplug",  "hub_save",
-                                            "hub_load",    "hub_name",   "hub_on_air", "hub_why",  "hub_look_up", "hub_stream" };
+                                            "hub_load",    "hub_name",   "hub_on_air", "hub_why",  "hub_look_up", "hub_stream",
+                                            "hub_upgrade", "hub_downgrade" };
 static const uint8_t address[6] = { 1, 2, 3, 4, 5, 6 };
-static uint8_t full[HUB_STATE_LEN], state[HUB_STATE_LEN], image[HUB_IMAGE_MAX], reply[HUB_IMAGE_MAX];
+static uint8_t full[HUB_STATE_LEN], state[HUB_STATE_LEN], reply[HUB_IMAGE_MAX];
+static uint8_t image[HUB_IMAGE_MAX], second[HUB_IMAGE_MAX]; /* the longest image, in version 1 and in version 2 */
 static uint8_t longest[6 + 0xFFFF]; /* the longest packet: its header, and octets that are not kept */
 static struct input inputs[INPUTS];
 static unsigned made;
@@ -94,6 +96,7 @@ static void make_full(unsigned octet)
     image[2] = HUB_IMAGE_MAX >> 8;
     image[3] = HUB_IMAGE_MAX & 0xFF;
     must("the longest image", hub_load(full, sizeof full, image, sizeof image), HUB_DONE);
+    must("its move to version 2", hub_upgrade(image, sizeof image, second, sizeof second), HUB_DONE);
     for (unsigned index = 0; index < 4; index++) {
         must_set(full, 0x0005, index, 1, 1, 0, HUB_STARTED, 1);
         fill_turns(index);
@@ -184,7 +187,10 @@ static void make_inputs(unsigned octet)
     for (unsigned k = 0; k < 5; k++)
         input(2, steps[k]);
     for (int entry = 3; entry < WHY; entry++)
-        input(entry, 3);
+        input(entry, entry == LOAD ? 1 : 3);
+    input(LOAD, 2);
+    input(UPGRADE, 1);
+    input(DOWNGRADE, 2);
     make_questions();
     make_look_ups(octet);
     for (unsigned k = 0; k < LUMPS; k++)
@@ -212,10 +218,12 @@ static uint64_t call(const struct input *in)
     case 3: return hub_plug(state, sizeof state, in->index, address, 6, 9, 15, 0x0281, reply, HUB_REPLY_MIN);
     case 4: return hub_unplug(state, sizeof state, in->index, reply, HUB_REPLY_MIN);
     case 5: return hub_save(state, sizeof state, reply, HUB_IMAGE_MAX);
-    case 6: return hub_load(state, sizeof state, image, sizeof image);
+    case LOAD: return hub_load(state, sizeof state, in->index == 1 ? image : second, HUB_IMAGE_MAX);
     case 7: return hub_name(state, sizeof state, in->index, 0, reply, HUB_REPLY_MIN);
     case 8: return hub_on_air(state, sizeof state, in->index, reply, HUB_REPLY_MIN);
     case STREAM: return lump(in);
+    case UPGRADE: return hub_upgrade(image, sizeof image, reply, sizeof reply);
+    case DOWNGRADE: return hub_downgrade(second, sizeof second, reply, sizeof reply);
     case LOOK_UP: return hub_look_up(state, sizeof state, 3, in->index, in->packet.octets, in->packet.length);
     default: return hub_why(state, sizeof state, in->packet.octets, in->packet.length, reply, 256);
     }

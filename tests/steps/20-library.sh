@@ -21,7 +21,7 @@ comm -13 "$out/names.without" "$out/names.with" > "$out/names.new"
 grep -q '^#define HUB_STATE_LEN ' "$out/names.new"
 none "$out/names.new" -v '^#define HUB_'
 diff <(nm -g --defined-only "$lib" | awk 'NF == 3 { print $3 }' | sort) \
-    <(printf 'hub_%s\n' clock command load look_up name on_air plug report save stream unplug why)
+    <(printf 'hub_%s\n' clock command downgrade load look_up name on_air plug report save stream unplug upgrade why)
 
 gcc -std=c11 -O2 $flags tests/c/constants.c "$lib" -o "$out/constants"
 g++ -std=c++17 -O2 $flags -x c++ tests/c/constants.c -x none "$lib" -o "$out/constants++"

@@ -4,23 +4,57 @@ set -euo pipefail
 cd "$(dirname "$0")/../.."
 . tests/steps/tools.sh
 export LC_ALL=C TZ=UTC
-need gcc awk
+need gcc awk diff cmp dd
 library
 out=target/tests/btsnoop
 mkdir -p "$out"
 flags="-std=c11 -g -O1 -Wall -Wextra -Werror"
 gcc $flags -Iinclude examples/host.c target/staticlib/libhub.a -o "$out/host"
 gcc $flags tools/btsnoop.c -o "$out/btsnoop"
+gcc $flags -Iinclude tools/hub.c target/staticlib/libhub.a -o "$out/hub"
 gcc $flags tests/c/read_btsnoop.c -o "$out/read"
 
 # The shift, its times replaced by the line's number, so that every octet of the file is known.
-rm -f "$out/shift.image"
-"$out/host" "$out/shift.image" "$out/shift.log" > /dev/null
+rm -rf "$out/shift.image" "$out"/*.image.1
+"$out/host" "$out/shift.image" "$out/shift.log" > "$out/host.txt"
 awk '{ $1 = sprintf("%d.%06d", 1780000000 + NR, 10 * NR); print }' "$out/shift.log" > "$out/numbered.log"
 "$out/btsnoop" "$out/numbered.log" "$out/shift.btsnoop"
 "$out/read" "$out/shift.btsnoop" > "$out/shift.txt"
 diff tests/steps/30-btsnoop.expected "$out/shift.txt"
 echo "btsnoop: $(wc -l < "$out/shift.txt") records, as expected"
+
+# The first save leaves a copy in version 1. The last one, with BR/EDR off, cannot, and removes the copy, which is another image by then.
+copies() { # FILE
+    grep -A 2 '^The same in version 1' "$out/$1" | grep "shift.image.1\|^The same" | sed 's|target/tests/btsnoop/||'
+}
+diff <(copies host.txt) - << 'LINES'
+The same in version 1: done
+    683 octets of version 1 are in shift.image.1
+The same in version 1: cannot be said
+    shift.image.1, of a save before, is removed
+LINES
+[ ! -e "$out/shift.image.1" ]
+# A copy that cannot be written, here for a directory, is said, and the host fails.
+mkdir "$out/shift.image.1"
+if "$out/host" "$out/shift.image" > "$out/host.txt"; then
+    echo "a copy that cannot be written, and the host says nothing"
+    exit 1
+fi
+grep -qx "$out/shift.image.1: not a plain file" "$out/host.txt"
+rmdir "$out/shift.image.1"
+"$out/host" "$out/shift.image" > "$out/host.txt"
+echo "host: a copy in version 1 where there is one, and no other"
+
+# The same shift on an image of version 1, that which it left with BR/EDR of controller 1, the last, turned on: the same packets, and the file is of version 2
+# in the end. Behind the low octet of the flags stand a static address, two empty names and six empty tables.
+cp "$out/shift.image" "$out/on.image"
+printf '\x82' | dd of="$out/on.image" bs=1 seek=$(($(wc -c < "$out/on.image") - 6 - 2 - 6 - 1)) conv=notrunc status=none
+"$out/hub" downgrade "$out/on.image" "$out/old.image"
+"$out/host" "$out/old.image" "$out/old.log" > "$out/old.txt"
+grep -qx 'Image of version 1, [0-9]* octets: done' <(head -n 1 "$out/old.txt")
+diff <(cut -d' ' -f2- "$out/shift.log") <(cut -d' ' -f2- "$out/old.log")
+cmp "$out/shift.image" "$out/old.image"
+echo "host: the same shift on an image of version 1"
 
 # Logs of all kinds: what is no packet, clients that come and go, an event nobody reads; then lines that are refused.
 converts() { # LOG-LINES LISTING NOTE

@@ -1,11 +1,11 @@
 #!/usr/bin/env bash
-# the bench's tool as a user calls it: images and states, packets in every form, each message and exit code; a part of it under valgrind
+# the bench's tool as a user calls it: images and states, packets in every form, images moved, each message and exit code; a part of it under valgrind
 set -euo pipefail
 cd "$(dirname "$0")/../.."
 . tests/steps/tools.sh
 export LC_ALL=C
 get valgrind valgrind
-need gcc valgrind sed diff head
+need gcc valgrind sed diff cmp head find stat
 library
 out=target/tests/tools
 rm -rf "$out"
@@ -13,6 +13,8 @@ mkdir -p "$out"
 flags="-std=c11 -g -O1 -Wall -Wextra -Werror -Iinclude"
 gcc $flags tools/hub.c target/staticlib/libhub.a -o "$out/hub"
 gcc $flags -O2 -fsanitize=undefined -fno-sanitize-recover=all tools/hub.c target/staticlib/libhub.a -o "$out/hub.checked"
+wrapped="-Wl,--wrap=fsync -Wl,--wrap=rename -Wl,--wrap=fchown"
+gcc $flags $wrapped tools/hub.c tests/steps/35-calls.c target/staticlib/libhub.a -o "$out/hub.calls"
 gcc $flags tests/steps/35-tools.c target/staticlib/libhub.a -o "$out/files"
 example=$(sed -n '\|^    target/demo/hub why target/demo/shift.image | s///p' README.md)
 example_says=$(sed -n '\|^    target/demo/hub why | { n; s/^    //p; }' README.md)
@@ -41,10 +43,12 @@ tries() { # CODE OUTPUT ERROR-OUTPUT ARGUMENTS
     }
     count=$((count + 1))
 }
+# What is said behind the name of an image, and of one of version 1.
+is_image="is an image: the answer is that of a hub just loaded from it, with power off, no advertising instances\nand nothing under way"
+is_image_1="is an image of version 1: the answer is that of a hub just loaded from it, with power off, BR/EDR on\nwhere it is supported, no advertising instances and nothing under way"
 # The same where the hub is an image, and where it is a state.
 image() { # CODE OUTPUT PACKET
-    local note="hub: plough.image is an image: the answer is that of a hub just loaded from it, with power off, BR/EDR on where it is\nsupported, no advertising instances and nothing under way\n"
-    tries "$1" "$2\n" "$note" why plough.image "${@:3}"
+    tries "$1" "$2\n" "hub: plough.image $is_image\n" why plough.image "${@:3}"
     tries "$1" "$2\n" "" why idle.state "${@:3}"
 }
 refused() { # STATUS TEXT PACKET
@@ -90,6 +94,16 @@ tries 1 "$busy" "" why busy.state "$power"
 tries 0 "would be taken\n" "" why busy.state "09 00 00 00 01 00 01"
 tries 0 "would be taken\n" "" why line.state "$power"
 
+# BR/EDR is off where an image says so, and on, as it is supported, in one of version 1.
+./hub downgrade plough.image plough.1.image
+le_off="0D 00 00 00 01 00 00"
+image 0 "would be taken" "$le_off"
+tries 0 "would be taken\n" "hub: plough.1.image $is_image_1\n" why plough.1.image "$le_off"
+tries 1 "would be refused, status 0x0B: Rejected: BR/EDR is off\n" "hub: off.image $is_image\n" why off.image "$le_off"
+cp plough.1.image input
+tries 0 "would be taken\n" "hub: - $is_image_1\n" why - "$power"
+: > input
+
 # Long term keys: device, LE Public, key type, Master, size 16, EDIV, Rand and Value of zeros.
 key() { octets "$1" 00 00 00 00 C0 01 "$2" 00 "$3" && zeros 26; }
 list() { octets 13 00 00 00 "$1" 00 "$2" 00; }
@@ -126,6 +140,7 @@ head -c $((state - 1)) idle.state > cut.state
 not="not octets in hexadecimal; a file is one argument, @ and its name"
 long_number=$(printf '05%.0s' {1..60000})
 bad_files() {
+    wrong "HUB is empty, and not the name of a file" why "" "$power"
     wrong "missing: No such file or directory" why missing "$power"
     wrong "directory: Is a directory" why directory "$power"
     wrong "missing: No such file or directory" why idle.state @missing
@@ -169,14 +184,26 @@ if [ -w /dev/full ]; then
     [ "$code" -eq 2 ]
 fi
 
+. ../../../tests/steps/moves.sh
+good_moves empty two long largest
+bad_moves
+bad_images
+files_of_all_kinds
+
 # The usage text: asked for, or after wrong use.
 ./hub help > usage
-grep -qx 'usage: hub why HUB PACKET' usage
+for word in 'usage: hub why HUB PACKET' '       hub upgrade IN OUT' '       hub downgrade IN OUT'; do grep -qx "$word" usage; done
+grep -q 'is for its owner alone to read and write (mode 0600)' usage
 usage=$(sed 's/\\/&&/g; s/%/%%/g; s/$/\\n/' usage | tr -d '\n')
-for arguments in help --help -h "why --help" "why -h" "help why"; do tries 0 "$usage" "" $arguments; done
+for arguments in help --help -h "why --help" "why -h" "help why" "upgrade -h" "downgrade --help" "help upgrade"; do tries 0 "$usage" "" $arguments; done
 tries 2 "" "hub: no word\n$usage"
 for arguments in wy "wy --help" WHY; do tries 2 "" "hub: no such word\n$usage" $arguments; done
-for arguments in why "why idle.state" "why help"; do tries 2 "" "hub: too few arguments\n$usage" $arguments; done
+for arguments in why "why idle.state" "why help" upgrade "upgrade two.1" downgrade "downgrade two.2"; do
+    tries 2 "" "hub: too few arguments\n$usage" $arguments
+done
+for arguments in "upgrade two.1 moved two.1" "downgrade two.2 moved -" "downgrade two.2 moved -h"; do
+    tries 2 "" "hub: too many arguments\n$usage" $arguments
+done
 echo "hub: $count calls, each with its exit code and what it says"
 
 # Under valgrind: what is wrong, a text of each form of place, the usage.
@@ -188,4 +215,6 @@ refused 0x0D "Invalid Parameters: two keys are for one device (long term keys: a
 image 0 "would be taken" $power
 tries 1 "$busy" "" why busy.state "$power"
 tries 0 "$usage" "" help
+good_moves largest
+bad_moves
 echo "hub: $count calls under valgrind"

@@ -1,13 +1,11 @@
 //! Set BR/EDR: how a controller comes back to BR/EDR on, and the situations that a run should reach.
 
-use crate::draft::Draft;
 use crate::situations::See;
-use reference::codes::{command as code, setting};
+use reference::codes::command as code;
 use reference::command::Command;
 use reference::controller::Controller;
-use reference::image::load;
 use reference::packet::{little_endian, Packet};
-use reference::reason::{ImageFault, Reason};
+use reference::reason::Reason;
 use reference::Hub;
 
 /// Whether a controller can be without BR/EDR though it has it.
@@ -19,7 +17,7 @@ pub fn can_be_off(controller: &Controller) -> bool {
 /// and that wants power off.
 pub fn back(controller: &Controller) -> Option<(u16, Vec<u8>)> {
     let plain = controller.static_address == [0; 6];
-    controller.is_beyond_images().then_some(match (plain, controller.powered) {
+    controller.has_br_edr_off().then_some(match (plain, controller.powered) {
         (true, _) => (code::SET_BR_EDR, vec![1]),
         (false, true) => (code::SET_POWERED, vec![0]),
         (false, false) => (code::SET_STATIC_ADDRESS, vec![0; 6]),
@@ -46,7 +44,7 @@ pub fn at_command(controller: &Controller, command: &Command, see: &mut See) {
             see("BR/EDR on started", powered && changes);
             see("BR/EDR on started without a change", powered && !changes);
         }
-        _ if controller.is_beyond_images() => beside_off(controller, command, see),
+        _ if controller.has_br_edr_off() => beside_off(controller, command, see),
         Command::SetStaticAddress(address) => {
             let public = !controller.br_edr && controller.hardware.public_address != [0; 6];
             see("static address of an LE-only controller with a public one", public && *address != [0; 6]);
@@ -95,7 +93,7 @@ pub fn at_report(controller: &Controller, command: &Command, see: &mut See) {
     let waits = matches!(command, Command::SetBrEdr(_));
     see("BR/EDR on at a report", waits && !controller.br_edr);
     see("BR/EDR on at a report without a change", waits && controller.br_edr);
-    let off = controller.is_beyond_images();
+    let off = controller.has_br_edr_off();
     see("power off with BR/EDR off", off && matches!(command, Command::SetPowered(0)));
 }
 
@@ -106,7 +104,7 @@ pub fn at_end(hub: &Hub, index: u64, name: &'static str, see: &mut See) {
 
 /// A save with room enough.
 pub fn at_save(hub: &Hub, open: bool, see: &mut See) {
-    let off = |index: &usize| hub.state().controller(*index as u64).is_some_and(Controller::is_beyond_images);
+    let off = |index: &usize| hub.state().controller(*index as u64).is_some_and(Controller::has_br_edr_off);
     let (count, present) = (hub.state().present().filter(off).count(), hub.state().present().count());
     see("save with BR/EDR off", count > 0);
     see("save with BR/EDR off at one of several", count == 1 && present > 1);
@@ -184,26 +182,8 @@ fn at_busy(hub: &Hub, packet: &Packet, see: &mut See) {
     }
 }
 
-/// An image that is loaded.
-pub fn at_image(image: &[u8], see: &mut See) {
-    match load(image) {
-        Ok(state) => {
-            let mut controllers = state.controllers.iter().flatten();
-            let both = controllers.any(|controller| controller.br_edr && controller.static_address != [0; 6]);
-            see("image with BR/EDR support and a static address, taken", both);
-        }
-        Err(ImageFault::Flags) => {
-            let draft = Draft::of(image);
-            let mut controllers = draft.iter().flat_map(|draft| &draft.controllers);
-            let flagged = controllers.any(|controller| controller.flags & setting::BR_EDR != 0);
-            see("image with flag bit 7, refused", flagged);
-        }
-        Err(_) => {}
-    }
-}
-
 /// What a run should come to beside Busy.
-const EXPECTED: [&str; 47] = [
+const EXPECTED: [&str; 45] = [
     "BR/EDR on at once",
     "BR/EDR on at once without a change",
     "BR/EDR on started",
@@ -249,8 +229,6 @@ const EXPECTED: [&str; 47] = [
     "discoverable with a timeout refused for BR/EDR",
     "LE off refused for BR/EDR with power",
     "LE off refused for BR/EDR without power",
-    "image with BR/EDR support and a static address, taken",
-    "image with flag bit 7, refused",
 ];
 
 /// All names that a run should come to.

@@ -89,7 +89,6 @@ pub fn expected_refusals() -> Vec<(String, String)> {
         ("report", "ReportStatus"),
         ("clock", "ClockStep"),
         ("unplug", "Absent"),
-        ("save", "NotInImage"),
         ("no packet", "Short"),
         ("no packet", "LengthField"),
         ("unknown code", "UnknownCommand"),
@@ -124,7 +123,7 @@ pub fn expected_orders() -> Vec<(String, String, String)> {
         (code::UNPAIR, &[AddressType, Disconnect, NotPowered], &[NotPaired]),
         (code::ADD_ADVERTISING, &values, &[LowEnergyOff, TimeoutUnpowered]),
     ];
-    let mut out = vec![("save".into(), "Room".into(), "NotInImage".into())];
+    let mut out = Vec::new();
     for (code, firsts, seconds) in pairs {
         for (first, second) in
             firsts.iter().flat_map(|first| seconds.iter().map(move |second| (first, second)))

@@ -1,18 +1,20 @@
 //! Damage to one place of an image, for each rule that images keep.
 
-use crate::draft::{records, ControllerDraft, Draft};
+use crate::draft::{records, ControllerDraft, Draft, NameDraft, NamesDraft};
 use crate::pools;
 use crate::random::Random;
 use crate::records::{put_outside_address, repeat, spoil, KINDS};
-use reference::codes::{setting, SLOTS};
+use reference::codes::{setting, NAME, SHORT_NAME, SLOTS};
 
 /// A rule that an image is made to break.
 #[derive(Clone, Copy, PartialEq, Eq, PartialOrd, Ord, Debug)]
 pub enum Damage {
     /// The length field.
     Length,
-    /// The version octet.
+    /// The version octet: no version.
     Version,
+    /// The version octet: the other version.
+    OtherVersion,
     /// The controller count.
     ControllerCount,
     /// An index too high, or not above the one before.
@@ -23,11 +25,15 @@ pub enum Damage {
     HighSettings,
     /// Neither BR/EDR nor LE.
     NoTransport,
-    /// Flags other than the three.
+    /// Flags that no version has.
     Flags,
+    /// The flag for BR/EDR in version 1.
+    OldBrEdr,
+    /// BR/EDR on without support, in version 2.
+    BrEdrOn,
     /// LE on without support.
     LowEnergyOn,
-    /// LE off without BR/EDR.
+    /// LE off without BR/EDR, or with BR/EDR off.
     LowEnergyOff,
     /// A static address with a low sixth octet.
     StaticAddress,
@@ -35,10 +41,14 @@ pub enum Damage {
     StaticOutside,
     /// A static address without LE support.
     StaticUnsupported,
-    /// The end of the name.
-    NameEnd,
-    /// The end of the short name.
-    ShortNameEnd,
+    /// The end of the name, number 0, or of the short name, number 1, in version 1.
+    NameEnd(usize),
+    /// A name of too many octets, in version 2.
+    NameLength(usize),
+    /// A zero in a name, in version 2.
+    NameZero(usize),
+    /// A length octet that is not the number of octets, in version 2.
+    NameCount(usize),
     /// A count octet of a table, the tables counted from 0.
     TableCount(usize),
     /// More records than slots.
@@ -57,12 +67,22 @@ pub enum Damage {
     Cut,
 }
 
+/// The kinds of damage to what the versions do not have in common.
+pub fn of_versions() -> Vec<Damage> {
+    use Damage::*;
+    let mut kinds = vec![OtherVersion, OldBrEdr, BrEdrOn, LowEnergyOff];
+    for which in 0..2 {
+        kinds.extend([NameEnd(which), NameLength(which), NameZero(which), NameCount(which)]);
+    }
+    kinds
+}
+
 /// All kinds of damage.
 pub fn all() -> Vec<Damage> {
     use Damage::*;
-    let mut kinds = vec![Length, Version, ControllerCount, Index, PublicAddress, HighSettings, NoTransport];
-    kinds.extend([Flags, LowEnergyOn, LowEnergyOff, StaticAddress, StaticOutside, StaticUnsupported]);
-    kinds.extend([NameEnd, ShortNameEnd, Tail, Cut]);
+    let mut kinds = of_versions();
+    kinds.extend([Length, Version, ControllerCount, Index, PublicAddress, HighSettings, NoTransport]);
+    kinds.extend([Flags, LowEnergyOn, StaticAddress, StaticOutside, StaticUnsupported, Tail, Cut]);
     for place in 0..KINDS.len() {
         kinds.extend([TableCount(place), TooManyRecords(place), Record(place), Repeat(place)]);
     }
@@ -75,7 +95,9 @@ pub fn all() -> Vec<Damage> {
 pub fn damage(random: &mut Random, draft: &mut Draft, kind: Damage) -> bool {
     match kind {
         Damage::Length => draft.length = Some(wrong_length(random, draft.octets().len() as u32)),
-        Damage::Version => draft.version = random.pick(&[0, 2, 0x10, 0xFF]),
+        Damage::Version => draft.version = random.pick(&[0, 3, 0x10, 0x81, 0xFF]),
+        Damage::OtherVersion if draft.controllers.is_empty() => return false,
+        Damage::OtherVersion => draft.version = 3 - draft.version,
         Damage::ControllerCount => {
             let count = draft.controllers.len() as u8;
             draft.count = Some(random.pick(&[count + 1, count.wrapping_sub(1), count + 4, count | 0x80]));
@@ -119,7 +141,8 @@ fn damage_index(random: &mut Random, draft: &mut Draft) -> bool {
 
 /// Damages one of the controllers that has a place for it.
 fn damage_controller(random: &mut Random, draft: &mut Draft, kind: Damage) -> bool {
-    let fits = |controller: &&mut ControllerDraft| fits(controller, kind);
+    let version = draft.version;
+    let fits = |controller: &&mut ControllerDraft| fits(controller, version, kind);
     let mut fitting: Vec<_> = draft.controllers.iter_mut().filter(fits).collect();
     if fitting.is_empty() {
         return false;
@@ -133,17 +156,29 @@ fn damage_controller(random: &mut Random, draft: &mut Draft, kind: Damage) -> bo
         | Damage::KeyOutside(place)
         | Damage::Repeat(place)
         | Damage::KeysUnsupported(place) => damage_table(random, controller, kind, place),
+        Damage::NameEnd(which)
+        | Damage::NameLength(which)
+        | Damage::NameZero(which)
+        | Damage::NameCount(which) => damage_name(random, &mut controller.names, kind, which),
         _ => damage_field(random, controller, kind),
     }
     true
 }
 
-/// Whether a controller has a place for the damage.
-fn fits(controller: &ControllerDraft, kind: Damage) -> bool {
+/// Whether a controller of an image of this version has a place for the damage.
+fn fits(controller: &ControllerDraft, version: u8, kind: Damage) -> bool {
     match kind {
         Damage::PublicAddress => controller.has_br_edr(),
+        Damage::OldBrEdr => version == 1,
+        Damage::BrEdrOn => version == 2 && !controller.has_br_edr(),
         Damage::LowEnergyOn | Damage::StaticUnsupported => !controller.has_low_energy(),
-        Damage::LowEnergyOff => !controller.has_br_edr(),
+        Damage::LowEnergyOff => version == 2 || !controller.has_br_edr(),
+        Damage::NameEnd(_) => version == 1,
+        Damage::NameLength(_) | Damage::NameCount(_) => version == 2,
+        Damage::NameZero(which) => match &controller.names {
+            NamesDraft::Whole(_) => false,
+            NamesDraft::Used(names) => !names[which].octets.is_empty(),
+        },
         Damage::StaticAddress | Damage::StaticOutside => controller.has_low_energy(),
         Damage::TooManyRecords(place) => controller.takes(KINDS[place]),
         Damage::Record(place) | Damage::KeyOutside(place) => !controller.tables[place].records.is_empty(),
@@ -162,18 +197,45 @@ fn damage_field(random: &mut Random, controller: &mut ControllerDraft, kind: Dam
             controller.supported &= !(setting::BR_EDR | setting::LOW_ENERGY);
         }
         Damage::Flags => {
-            let others: Vec<u32> = (0..32).filter(|bit| ![1, 4, 9].contains(bit)).collect();
-            controller.flags |= if random.percent(40) { setting::BR_EDR } else { 1 << random.pick(&others) };
+            let others: Vec<u32> = (0..32).filter(|bit| ![1, 4, 7, 9].contains(bit)).collect();
+            controller.flags |= 1 << random.pick(&others);
         }
+        Damage::OldBrEdr | Damage::BrEdrOn => controller.flags |= setting::BR_EDR,
         Damage::LowEnergyOn => controller.flags |= setting::LOW_ENERGY,
-        Damage::LowEnergyOff => controller.flags &= !setting::LOW_ENERGY,
+        Damage::LowEnergyOff => controller.flags &= !(setting::BR_EDR | setting::LOW_ENERGY),
         Damage::StaticAddress => {
             controller.static_address = pools::low_address(random.below(pools::LOW));
         }
         Damage::StaticOutside => controller.static_address = pools::some_outside(random),
-        Damage::StaticUnsupported => controller.static_address = pools::static_address(random),
-        Damage::NameEnd => controller.names[248] = random.octet() | 1,
-        _ => controller.names[259] = random.octet() | 1,
+        _ => controller.static_address = pools::static_address(random),
+    }
+}
+
+/// Damages the name, number 0, or the short name, number 1.
+fn damage_name(random: &mut Random, names: &mut NamesDraft, kind: Damage, which: usize) {
+    let end = [NAME, SHORT_NAME][which];
+    match names {
+        NamesDraft::Whole(octets) => octets[[NAME, NAME + SHORT_NAME][which] - 1] = random.octet() | 1,
+        NamesDraft::Used(names) => damage_used(random, &mut names[which], kind, end),
+    }
+}
+
+/// Damages a name of version 2 that would have a zero at this place.
+fn damage_used(random: &mut Random, name: &mut NameDraft, kind: Damage, end: usize) {
+    let length = name.octets.len();
+    match kind {
+        Damage::NameLength(_) => {
+            let most = random.pick(&[end, end + 1, 255]).min(255);
+            name.octets = (0..most).map(|_| random.octet().max(1)).collect();
+        }
+        Damage::NameZero(_) => {
+            let place = random.below(length);
+            name.octets[random.pick(&[0, place, length - 1])] = 0;
+        }
+        _ => {
+            let (more, less) = (length as u8 + 1, (length as u8).wrapping_sub(1));
+            name.length = Some(random.pick(&[more, less, length as u8 ^ 0x80, end as u8 ^ 0x80]));
+        }
     }
 }
 

@@ -3,7 +3,8 @@
 use crate::pools;
 use crate::random::Random;
 use crate::records::{key_list, Kind, KINDS};
-use reference::codes::{setting, CONTROLLERS, SLOTS};
+use reference::codes::{setting, CONTROLLERS, NAME, SHORT_NAME, SLOTS};
+use reference::controller::LocalName;
 use reference::records::Address;
 
 /// An image before it is written out.
@@ -40,10 +41,28 @@ pub struct ControllerDraft {
     pub flags: u32,
     /// Its static address.
     pub static_address: Address,
-    /// Name and short name, 260 octets.
-    pub names: Vec<u8>,
+    /// Name and short name.
+    pub names: NamesDraft,
     /// The six tables.
     pub tables: [TableDraft; 6],
+}
+
+/// Name and short name of an image.
+#[derive(Clone, PartialEq, Eq, Debug)]
+pub enum NamesDraft {
+    /// All 260 octets, as in version 1.
+    Whole(Vec<u8>),
+    /// The used part of each, as in version 2.
+    Used([NameDraft; 2]),
+}
+
+/// A name of an image of version 2.
+#[derive(Clone, PartialEq, Eq, Debug)]
+pub struct NameDraft {
+    /// The length octet, where it is not the number of octets.
+    pub length: Option<u8>,
+    /// The octets.
+    pub octets: Vec<u8>,
 }
 
 /// A table of an image.
@@ -68,20 +87,14 @@ fn array<const N: usize>(rest: &mut &[u8]) -> Option<[u8; N]> {
 }
 
 impl Draft {
-    /// A valid image of so many controllers at random indexes.
+    /// A valid image of either version, with some controllers at random indexes.
     pub fn random(random: &mut Random) -> Draft {
+        let version = random.between(1, 2) as u8;
         let count = random.below(CONTROLLERS + 1);
         let mut indexes = random.sample(CONTROLLERS, count);
         indexes.sort_unstable();
-        let controllers = indexes.iter().map(|index| ControllerDraft::random(random, *index as u8));
-        Draft {
-            length: None,
-            version: 1,
-            count: None,
-            controllers: controllers.collect(),
-            tail: vec![],
-            cut: 0,
-        }
+        let controllers = indexes.iter().map(|index| ControllerDraft::random(random, version, *index as u8));
+        Draft { length: None, version, count: None, controllers: controllers.collect(), tail: vec![], cut: 0 }
     }
 
     /// Reads a valid image.
@@ -89,11 +102,13 @@ impl Draft {
         Draft::of(image).expect("a valid image is whole")
     }
 
-    /// Reads an image by its counts, if all that they count is there; no other rule is looked at, and no octet behind it.
+    /// Reads an image of version 1 or 2 by its counts and lengths, if all that they count is there; no other rule is looked at, and no
+    /// octet behind it.
     pub fn of(image: &[u8]) -> Option<Draft> {
         let mut rest = image.get(4..)?;
         let [version, count] = array(&mut rest)?;
-        let controllers = (0..count).map(|_| ControllerDraft::of(&mut rest)).collect::<Option<_>>()?;
+        let controller = |_| ControllerDraft::of(&mut rest, version);
+        let controllers = (0..count).map(controller).collect::<Option<_>>()?;
         Some(Draft { length: None, version, count: None, controllers, tail: vec![], cut: 0 })
     }
 
@@ -109,6 +124,45 @@ impl Draft {
         let length = self.length.unwrap_or(out.len() as u32);
         out[..4].copy_from_slice(&length.to_be_bytes());
         out
+    }
+}
+
+impl NamesDraft {
+    /// Names as a version has them.
+    fn random(random: &mut Random, version: u8) -> NamesDraft {
+        let whole = pools::names(random);
+        if version == 1 {
+            return NamesDraft::Whole(whole);
+        }
+        let names = LocalName::read(&whole);
+        let used = |which| names.used(which).unwrap_or_default().to_vec();
+        NamesDraft::Used([0, 1].map(|which| NameDraft { length: None, octets: used(which) }))
+    }
+
+    /// Reads names as a version has them, if they are whole.
+    fn of(rest: &mut &[u8], version: u8) -> Option<NamesDraft> {
+        let mut used = || {
+            let length = array::<1>(rest)?[0];
+            Some(NameDraft { length: None, octets: take(rest, length.into())?.to_vec() })
+        };
+        match version {
+            1 => Some(NamesDraft::Whole(take(rest, NAME + SHORT_NAME)?.to_vec())),
+            2 => Some(NamesDraft::Used([used()?, used()?])),
+            _ => None,
+        }
+    }
+
+    /// Adds their octets.
+    fn write(&self, out: &mut Vec<u8>) {
+        match self {
+            NamesDraft::Whole(octets) => out.extend_from_slice(octets),
+            NamesDraft::Used(names) => {
+                for name in names {
+                    out.push(name.length.unwrap_or(name.octets.len() as u8));
+                    out.extend_from_slice(&name.octets);
+                }
+            }
+        }
     }
 }
 
@@ -133,7 +187,7 @@ impl ControllerDraft {
     }
 
     /// A valid controller.
-    fn random(random: &mut Random, index: u8) -> ControllerDraft {
+    fn random(random: &mut Random, version: u8, index: u8) -> ControllerDraft {
         let (supported, public_address) = pools::hardware(random);
         let mut controller = ControllerDraft {
             index,
@@ -143,7 +197,7 @@ impl ControllerDraft {
             supported,
             flags: random.pick(&[0, 0x0002, 0x0010, 0x0012]),
             static_address: [0; 6],
-            names: pools::names(random),
+            names: NamesDraft::random(random, version),
             tables: Default::default(),
         };
         let low_energy = controller.has_low_energy();
@@ -152,6 +206,10 @@ impl ControllerDraft {
         }
         if low_energy && random.percent(60) {
             controller.static_address = pools::static_address(random);
+        }
+        if version == 2 && controller.has_br_edr() {
+            let off = controller.flags & setting::LOW_ENERGY != 0 && random.percent(40);
+            controller.flags |= if off { 0 } else { setting::BR_EDR };
         }
         for (place, kind) in KINDS.iter().enumerate() {
             if controller.takes(*kind) {
@@ -162,7 +220,7 @@ impl ControllerDraft {
     }
 
     /// Reads a controller by its counts, if it is whole.
-    fn of(rest: &mut &[u8]) -> Option<ControllerDraft> {
+    fn of(rest: &mut &[u8], version: u8) -> Option<ControllerDraft> {
         let mut controller = ControllerDraft {
             index: array::<1>(rest)?[0],
             public_address: array(rest)?,
@@ -171,7 +229,7 @@ impl ControllerDraft {
             supported: u32::from_be_bytes(array(rest)?),
             flags: u32::from_be_bytes(array(rest)?),
             static_address: array(rest)?,
-            names: take(rest, 260)?.to_vec(),
+            names: NamesDraft::of(rest, version)?,
             tables: Default::default(),
         };
         for (place, kind) in KINDS.iter().enumerate() {
@@ -191,7 +249,7 @@ impl ControllerDraft {
         out.extend_from_slice(&self.supported.to_be_bytes());
         out.extend_from_slice(&self.flags.to_be_bytes());
         out.extend_from_slice(&self.static_address);
-        out.extend_from_slice(&self.names);
+        self.names.write(out);
         for table in &self.tables {
             out.push(table.count.unwrap_or(table.records.len() as u8));
             out.extend(table.records.concat());

@@ -1,6 +1,7 @@
 //! Random lists of calls that follow a hub, so that most calls mean something.
 
 use crate::br_edr;
+use crate::images;
 use crate::instances;
 use crate::line::Line;
 use crate::parameters;
@@ -228,13 +229,7 @@ impl Generator {
 
     /// A save: the room is mostly just enough.
     fn save(&mut self) -> Call {
-        let room = match self.random.below(8) {
-            0 => self.random.pick(&[0, 1023, 1024, 16_013]),
-            1 => 16_013,
-            2 => self.random.pick(&[16_015, 20_000]),
-            _ => 16_014,
-        };
-        Call::Save { room }
+        Call::Save { room: images::room(&mut self.random) }
     }
 
     /// A present index, mostly the one in focus.
@@ -403,7 +398,7 @@ impl Generator {
         let (leads, percent) = match self.mood {
             Mood::BrEdr if controller.br_edr => (br_edr::away(controller), 12),
             Mood::BrEdr => (br_edr::back(controller), 2),
-            _ if controller.is_beyond_images() => (br_edr::back(controller), 12),
+            _ if controller.has_br_edr_off() => (br_edr::back(controller), 12),
             Mood::Advertising => (instances::ready(controller), 60),
             _ => (None, 0),
         };

@@ -2,10 +2,10 @@
 //! and events, and how often.
 
 use crate::addresses;
-use crate::br_edr;
 use crate::lists::{Lists, IMAGES};
 use crate::look_ups::{LookUps, LOOK_UPS};
 use crate::lumps;
+use crate::moves;
 use crate::packets::{Packets, PACKETS};
 use crate::situations::situations;
 use crate::walks::{self, Walks};
@@ -38,7 +38,7 @@ pub struct Histogram {
     pub walks: Walks,
     /// All calls.
     pub calls: usize,
-    /// Images loaded after the lists.
+    /// Images loaded and moved after the lists.
     pub images: usize,
     /// Packets asked about after the lists.
     pub packets: usize,
@@ -82,13 +82,8 @@ fn what(call: &Call) -> String {
 fn reasons(hub: &Hub, call: &Call) -> Vec<String> {
     let least = if matches!(call, Call::Save { .. }) { IMAGE_ROOM } else { REPLY_ROOM };
     let state = hub.state();
-    let room = (call.room() < least).then_some(NO_ROOM);
     match call {
-        Call::Save { .. } => {
-            let beyond = state.is_beyond_images().then_some("NotInImage");
-            room.into_iter().chain(beyond).map(String::from).collect()
-        }
-        _ if room.is_some() => room.into_iter().map(String::from).collect(),
+        _ if call.room() < least => vec![NO_ROOM.into()],
         Call::Command { packet, .. } if Packet::read(packet).is_none() => {
             vec![if packet.len() < HEADER { "Short" } else { "LengthField" }.into()]
         }
@@ -156,7 +151,8 @@ impl Histogram {
             }
             histogram.packets += PACKETS;
             for _ in 0..IMAGES {
-                histogram.add_image(&lists.image());
+                let (image, room) = lists.image();
+                histogram.add_image(&image, room);
             }
         }
         histogram
@@ -170,8 +166,8 @@ impl Histogram {
         }
     }
 
-    /// Counts what is special about an image.
-    fn add_image(&mut self, image: &[u8]) {
+    /// Counts what is special about an image, and about moving it with this room.
+    fn add_image(&mut self, image: &[u8], room: usize) {
         self.images += 1;
         let mut see = |name: &'static str, holds: bool| {
             if holds {
@@ -179,7 +175,7 @@ impl Histogram {
             }
         };
         addresses::at_image(image, &mut see);
-        br_edr::at_image(image, &mut see);
+        moves::at_image(image, room, &mut see);
     }
 
     /// Counts a call with its reply.

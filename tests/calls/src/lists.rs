@@ -1,19 +1,18 @@
 //! Whole lists of calls: where they start, how long they are, and calls at the
 //! end that show what is left in the hub.
 
-use crate::br_edr;
-use crate::damage::{all, damage};
 use crate::draft::Draft;
 use crate::generator::Generator;
+use crate::images;
 use crate::pools;
 use crate::random::Random;
-use reference::codes::{answer, command as code, status, CONTROLLERS, IMAGE_ROOM, REPLY_ROOM};
+use reference::codes::{command as code, status, CONTROLLERS, IMAGE_ROOM, REPLY_ROOM};
 use reference::packet::frame;
 use reference::{Call, Hub};
 
-/// How many images a run loads after each list.
-pub const IMAGES: usize = 8;
-/// The image of the fresh hub.
+/// How many images a run loads and moves after each list.
+pub const IMAGES: usize = 12;
+/// An image of the fresh hub.
 pub const EMPTY: [u8; 6] = [0, 0, 0, 6, 1, 0];
 
 /// An image for a list to start from: the empty one, the last list's, or one
@@ -35,44 +34,11 @@ pub fn length(random: &mut Random) -> usize {
     }
 }
 
-/// An image to load, seldom valid: a saved one or one from scratch, damaged in
-/// one place or in one octet.
-pub fn image(random: &mut Random, saved: &[u8]) -> Vec<u8> {
-    let mut draft = if random.percent(40) { Draft::read(saved) } else { Draft::random(random) };
-    match random.below(8) {
-        0 => draft.octets(),
-        1 => one_octet(random, draft.octets()),
-        2 => {
-            let length = random.below(40);
-            random.octets(length)
-        }
-        _ => {
-            let kinds = all();
-            for _ in 0..20 {
-                let kind = random.pick(&kinds);
-                if damage(random, &mut draft, kind) {
-                    break;
-                }
-            }
-            draft.octets()
-        }
-    }
-}
-
-/// Changes one octet, mostly one before the tables.
-fn one_octet(random: &mut Random, mut image: Vec<u8>) -> Vec<u8> {
-    let most = if random.percent(60) { image.len().min(300) } else { image.len() };
-    let place = random.below(most);
-    image[place] = if random.percent(50) { image[place] ^ (1 << random.below(8)) } else { random.octet() };
-    image
-}
-
 /// Calls that end a list: what is under way fails, the timers are run to their
-/// ends, BR/EDR is turned on again so that images can tell everything, the
-/// settings are shown, free slots are used in each table that can be filled one
-/// by one, and an advertising instance comes and all go.
+/// ends, the settings are shown, free slots are used in each table that can be
+/// filled one by one, and an advertising instance comes and all go.
 pub struct Closing {
-    /// How many calls there were, reports and what turns BR/EDR on aside.
+    /// How many calls there were, reports aside.
     step: usize,
 }
 
@@ -89,9 +55,6 @@ impl Closing {
         if let Some(index) = (0..CONTROLLERS as u64).find(|index| hub.open(*index).is_some()) {
             let status = if self.step == 0 { status::FAILED.into() } else { 0 };
             return Some(Call::Report { index, status, room: REPLY_ROOM });
-        }
-        if let Some(call) = turned_on(hub).filter(|_| self.step > CLOCKS) {
-            return Some(call);
         }
         let step = self.step;
         self.step += 1;
@@ -110,13 +73,6 @@ impl Default for Closing {
     fn default() -> Self {
         Closing::new()
     }
-}
-
-/// A call that leads back to BR/EDR on where it is off, if it is off anywhere.
-fn turned_on(hub: &Hub) -> Option<Call> {
-    let lacks = |index: usize| Some((index, br_edr::back(hub.state().controllers[index].as_ref()?)?));
-    let (index, (code, parameters)) = (0..CONTROLLERS).find_map(lacks)?;
-    Some(Call::Command { packet: frame(code, index as u16, &parameters), room: REPLY_ROOM })
 }
 
 /// The reading one second before the first timer ends, then the one at its end.
@@ -236,10 +192,7 @@ impl Lists {
         self.left -= 1;
         let call = self.generator.next(hub);
         if self.left == 0 {
-            let saved = hub.save(IMAGE_ROOM);
-            if saved.answer == answer::DONE {
-                self.last = saved.octets;
-            }
+            self.last = hub.save(IMAGE_ROOM).octets;
         }
         Some(call)
     }
@@ -249,8 +202,9 @@ impl Lists {
         self.left == 0
     }
 
-    /// An image to load, seldom valid.
-    pub fn image(&mut self) -> Vec<u8> {
-        image(self.generator.random(), &self.last)
+    /// An image to load and to move, seldom valid, and the room for what a move gives.
+    pub fn image(&mut self) -> (Vec<u8>, usize) {
+        let random = self.generator.random();
+        (images::image(random, &self.last), images::room(random))
     }
 }

@@ -2,6 +2,7 @@
 
 use crate::addresses;
 use crate::br_edr;
+use crate::moves;
 use crate::on_air;
 use reference::codes::{command as code, status, CONTROLLERS, SLOTS};
 use reference::command::Command;
@@ -51,6 +52,7 @@ pub fn situations(hub: &Hub, call: &Call) -> Vec<&'static str> {
 fn at_save(hub: &Hub, see: &mut See) {
     see("save during a command", open(hub) > 0);
     br_edr::at_save(hub, open(hub) > 0, see);
+    moves::at_save(hub, see);
     see("save with instances", (0..CONTROLLERS as u64).any(|k| advertises(hub.state().controller(k))));
 }
 
@@ -214,7 +216,7 @@ fn unpaired(controller: &Controller, peer: &Peer, see: &mut See) {
     see("zero address unpaired", peer.is_zero());
 }
 
-/// All names that a run should come to, those of advertising, of addresses, of BR/EDR and of lumps aside.
+/// All names that a run should come to, those of advertising, of addresses, of BR/EDR, of images and of lumps aside.
 pub const EXPECTED: [&str; 41] = [
     "failed report beside another open command",
     "unplug during a command",

@@ -1,13 +1,14 @@
 //! Random images: valid ones come back as they were, damaged ones are refused.
 
 use calls::damage::{all, damage, Damage};
-use calls::draft::Draft;
-use calls::lists::{image, Lists, EMPTY};
+use calls::draft::{Draft, NamesDraft};
+use calls::images::image;
+use calls::lists::{Lists, EMPTY};
 use calls::Random;
-use reference::codes::answer::NOT_IN_IMAGE;
-use reference::codes::IMAGE_ROOM;
-use reference::image::{load, save};
-use reference::{Hub, Reply};
+use reference::codes::answer::{DONE, IMAGE, NOT_IN_IMAGE};
+use reference::codes::{IMAGE_ROOM, NAME};
+use reference::image::load;
+use reference::{downgrade, upgrade, Hub, Reply};
 use std::collections::BTreeMap;
 
 #[test]
@@ -19,7 +20,11 @@ fn images_from_scratch_come_back() {
         let octets = draft.octets();
         let mut hub = Hub::new();
         assert_eq!(hub.load(&octets).answer, 0);
-        assert_eq!(hub.save(IMAGE_ROOM).octets, octets);
+        let saved = hub.save(IMAGE_ROOM).octets;
+        assert_eq!(
+            saved,
+            if draft.version == 1 { upgrade(&octets, IMAGE_ROOM).octets } else { octets.clone() }
+        );
         assert_eq!(Draft::read(&octets), draft);
         longest = longest.max(octets.len());
     }
@@ -29,7 +34,7 @@ fn images_from_scratch_come_back() {
 #[test]
 fn saved_images_come_back_closed_up() {
     let mut lists = Lists::new(22);
-    let mut beyond = 0;
+    let mut off = 0;
     for _ in 0..200 {
         let (_, mut hub) = lists.start();
         while let Some(call) = lists.next(&hub) {
@@ -39,18 +44,57 @@ fn saved_images_come_back_closed_up() {
             }
         }
         let Reply { answer, octets: saved, .. } = hub.save(IMAGE_ROOM);
-        assert_eq!(answer, if hub.state().is_beyond_images() { NOT_IN_IMAGE } else { 0 });
-        if answer == NOT_IN_IMAGE {
-            assert!(saved.is_empty());
-            beyond += 1;
-            continue;
-        }
+        assert_eq!(answer, DONE);
+        let beyond = hub.state().has_br_edr_off();
+        off += usize::from(beyond);
+        assert_eq!(downgrade(&saved, IMAGE_ROOM).answer, if beyond { NOT_IN_IMAGE } else { DONE });
         let mut again = Hub::new();
         assert_eq!(again.load(&saved).answer, 0);
         assert_eq!(again.save(IMAGE_ROOM).octets, saved);
         assert_eq!(again.state().clock, 0);
     }
-    assert!((5..100).contains(&beyond), "{beyond} of 200 are not saved");
+    assert!((5..100).contains(&off), "{off} of 200 have BR/EDR off");
+}
+
+/// The octets of both names of each controller of an image of version 1 that stand behind their ends made zero.
+fn cleaned(draft: &Draft) -> Draft {
+    let mut cleaned = draft.clone();
+    for controller in &mut cleaned.controllers {
+        let NamesDraft::Whole(octets) = &mut controller.names else { panic!("an image of version 1") };
+        let (name, short_name) = octets.split_at_mut(NAME);
+        for name in [name, short_name] {
+            let end = name.iter().position(|octet| *octet == 0).expect("each name has an end");
+            name[end..].fill(0);
+        }
+    }
+    cleaned
+}
+
+#[test]
+fn moved_images_come_back() {
+    let mut random = Random::new(25);
+    let mut counts = [0; 4];
+    for _ in 0..4_000 {
+        let draft = Draft::random(&mut random);
+        let octets = draft.octets();
+        let (new, old) = (upgrade(&octets, IMAGE_ROOM), downgrade(&octets, IMAGE_ROOM));
+        let kind = match (draft.version, old.answer) {
+            (1, IMAGE) => {
+                assert_eq!(new.answer, DONE);
+                let clean = cleaned(&draft);
+                assert_eq!(downgrade(&new.octets, IMAGE_ROOM).octets, clean.octets());
+                usize::from(clean != draft)
+            }
+            (2, answer) => {
+                assert_eq!(new.answer, IMAGE);
+                assert!(answer == NOT_IN_IMAGE || upgrade(&old.octets, IMAGE_ROOM).octets == octets);
+                2 + usize::from(answer == NOT_IN_IMAGE)
+            }
+            (version, answer) => panic!("version {version} moved back: {answer}"),
+        };
+        counts[kind] += 1;
+    }
+    assert!(counts.iter().all(|count| *count > 300), "clean, dirty, back and not back: {counts:?}");
 }
 
 #[test]
@@ -62,11 +106,10 @@ fn every_damage_is_refused() {
         let kind = random.pick(&all());
         if damage(&mut random, &mut draft, kind) {
             let octets = draft.octets();
-            let fault = load(&octets).err();
-            // A wrong count may read records where others were, and fit by chance.
-            let by_chance = matches!(kind, Damage::TableCount(_))
-                && load(&octets).is_ok_and(|state| save(&state) == octets);
-            assert!(fault.is_some() || by_chance, "{kind:?} is not refused: {octets:?}");
+            // A wrong count or length may read octets where others were, and fit by chance.
+            let read = Draft::of(&octets).filter(|other| *other != draft && other.octets() == octets);
+            let by_chance = matches!(kind, Damage::TableCount(_) | Damage::NameCount(_)) && read.is_some();
+            assert!(load(&octets).is_err() || by_chance, "{kind:?} is not refused: {octets:?}");
             *counts.entry(kind).or_default() += 1;
         }
     }
@@ -91,6 +134,6 @@ fn images_to_load_reach_every_fault() {
         }
     }
     assert!(accepted > 500);
-    // 16 before the tables, 9 of whole tables, 22 of records.
-    assert_eq!(faults.len(), 47, "{faults:#?}");
+    // 21 before the tables, 9 of whole tables, 22 of records.
+    assert_eq!(faults.len(), 52, "{faults:#?}");
 }

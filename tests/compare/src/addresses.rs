@@ -3,10 +3,11 @@
 
 use crate::altered::{refused, taken};
 use crate::identities::read;
+use crate::images::{image_agrees, move_agrees};
 use crate::layout::{block, slot, IDENTITY_KEYS, LONG_TERM_KEYS, STATIC_ADDRESS};
 use crate::lent::{Difference, Lent};
-use crate::run::{image_agrees, step};
-use crate::target::Target;
+use crate::run::step;
+use crate::target::{Move, Target};
 use calls::draft::Draft;
 use calls::pools::{high_address, inside_address, low_address, outside_address, INSIDE, LOW, OUTSIDE};
 use calls::records::{identity_key, long_term_key};
@@ -14,7 +15,7 @@ use calls::Random;
 use reference::codes::{answer, command as code, IMAGE_ROOM, REPLY_ROOM};
 use reference::packet::frame;
 use reference::records::{Address, IdentityKey, LongTermKey, Record, LE_RANDOM};
-use reference::{Call, Hub};
+use reference::{downgrade, Call, Hub};
 use std::fmt::{Display, Formatter};
 
 /// A field that wants a static random address.
@@ -222,12 +223,31 @@ fn try_one<T: Target>(
     let mut hub = begin(lent, base)?;
     match place.carrier {
         Carrier::Command => Ok(step(lent, &mut hub, &command(place, address))?.answer == answer::DONE),
-        Carrier::Image => {
-            let mut draft = Draft::read(base);
-            put_in_image(&mut draft, place, address);
-            image_agrees(lent, &mut hub, &draft.octets())
-        }
+        Carrier::Image => in_images(lent, base, place, address),
         Carrier::State => in_state(lent, &hub, place, address),
+    }
+}
+
+/// Tries an address in images of both versions, loaded and moved: both are taken, or neither is.
+fn in_images<T: Target>(
+    lent: &mut Lent<T>,
+    base: &[u8],
+    place: &Place,
+    address: &Address,
+) -> Result<bool, Difference> {
+    let old = downgrade(base, IMAGE_ROOM).octets;
+    let mut taken = Vec::new();
+    for image in [base, &old] {
+        let mut draft = Draft::read(image);
+        put_in_image(&mut draft, place, address);
+        taken.push(image_agrees(lent, &mut Hub::new(), &draft.octets())?);
+        for way in [Move::Upgrade, Move::Downgrade] {
+            move_agrees(lent, way, &draft.octets(), IMAGE_ROOM)?;
+        }
+    }
+    match taken[0] == taken[1] {
+        true => Ok(taken[0]),
+        false => Err("the versions differ".into()),
     }
 }
 

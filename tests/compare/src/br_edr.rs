@@ -2,9 +2,10 @@
 //! BR/EDR, what stands against it and what it stands against. Then a slow radio, saves, plugs and images.
 
 use crate::altered::refused;
+use crate::images::{image_agrees, tried_agrees};
 use crate::layout::{block, encode, STATIC_ADDRESS};
 use crate::lent::{Difference, Lent};
-use crate::run::{image_agrees, images_agree, same, step};
+use crate::run::{same, step};
 use crate::switches;
 use crate::target::Target;
 use calls::draft::Draft;
@@ -13,7 +14,7 @@ use reference::codes::{answer, command as code, setting, CONTROLLERS, IMAGE_ROOM
 use reference::command::Command;
 use reference::controller::{Controller, Hardware};
 use reference::packet::frame;
-use reference::{Call, Hub, Reply};
+use reference::{downgrade, Call, Hub, Reply};
 use std::fmt::{Display, Formatter};
 
 /// The index that is looked at.
@@ -36,17 +37,17 @@ pub struct Sweep {
     pub calls: usize,
     /// Those of them that were started, each ended in three ways.
     pub started: usize,
-    /// Saves that an image cannot tell.
-    pub beyond: usize,
-    /// Images loaded.
+    /// Saves with BR/EDR off somewhere.
+    pub off: usize,
+    /// Images loaded and moved.
     pub images: usize,
 }
 
 impl Display for Sweep {
     fn fmt(&self, out: &mut Formatter<'_>) -> std::fmt::Result {
-        let Sweep { states, well_formed, calls, started, beyond, images } = self;
+        let Sweep { states, well_formed, calls, started, off, images } = self;
         write!(out, "{states} states of the switches ({well_formed} well formed), {calls} calls on them, ")?;
-        write!(out, "{started} started, {beyond} saves answered 8, {images} images")
+        write!(out, "{started} started, {off} saves with BR/EDR off, {images} images")
     }
 }
 
@@ -131,7 +132,8 @@ fn play<T: Target>(
     for call in calls {
         last = step(lent, &mut hub, call).map_err(|difference| format!("{call:02X?}: {difference}"))?;
         sweep.calls += 1;
-        sweep.beyond += usize::from(last.answer == answer::NOT_IN_IMAGE);
+        let saved = matches!(call, Call::Save { .. }) && last.answer == answer::DONE;
+        sweep.off += usize::from(saved && hub.state().has_br_edr_off());
     }
     Ok(last)
 }
@@ -278,13 +280,14 @@ fn saves_agree<T: Target>(lent: &mut Lent<T>, sweep: &mut Sweep) -> Result<(), D
         }
         for room in [0, REPLY_ROOM, IMAGE_ROOM - 1, IMAGE_ROOM, IMAGE_ROOM + 1] {
             let result = play(lent, &turned, &[&Call::Save { room }], sweep);
+            let result = result.and_then(|_| tried_agrees(lent, &turned.save(room).octets, room));
             result.map_err(|difference| format!("BR/EDR off at {off:04b}: {difference}"))?;
         }
     }
     Ok(())
 }
 
-/// Images with every flag that there is, flag bit 7 too, for each support, with and without a static address.
+/// Images of the version of this one with every flag that there is, for each support, with and without a static address.
 fn loads_agree<T: Target>(lent: &mut Lent<T>, image: &[u8], sweep: &mut Sweep) -> Result<(), Difference> {
     let bits = [setting::CONNECTABLE, setting::BONDABLE, setting::BR_EDR, setting::LOW_ENERGY];
     for (supported, number) in SUPPORTED.into_iter().flat_map(|s| (0..32_usize).map(move |n| (s, n))) {
@@ -295,14 +298,11 @@ fn loads_agree<T: Target>(lent: &mut Lent<T>, image: &[u8], sweep: &mut Sweep) -
             controller.supported = supported;
             controller.static_address = if number >= 16 { high_address(4) } else { [0; 6] };
         }
-        let mut hub = Hub::new();
         sweep.images += 1;
-        let result = image_agrees(lent, &mut hub, &draft.octets()).and_then(|taken| match taken {
-            true => images_agree(lent, &hub.save(IMAGE_ROOM)),
-            false => Ok(()),
-        });
+        let result = tried_agrees(lent, &draft.octets(), IMAGE_ROOM);
         result.map_err(|difference| {
-            format!("an image, supported {supported:#06x}, {number:05b}: {difference}")
+            let version = draft.version;
+            format!("an image of version {version}, supported {supported:#06x}, {number:05b}: {difference}")
         })?;
     }
     Ok(())
@@ -314,7 +314,9 @@ pub fn br_edr_agrees<T: Target>(lent: &mut Lent<T>) -> Result<Sweep, Difference>
     plugs_agree(lent)?;
     saves_agree(lent, &mut sweep)?;
     let base = plugged(lent, &plugs())?;
-    loads_agree(lent, &base.save(IMAGE_ROOM).octets, &mut sweep)?;
+    let image = base.save(IMAGE_ROOM).octets;
+    loads_agree(lent, &image, &mut sweep)?;
+    loads_agree(lent, &downgrade(&image, IMAGE_ROOM).octets, &mut sweep)?;
     plugged(lent, &plugs())?;
     slow_radio_agrees(lent, &base, &mut sweep)?;
     states_agree(lent, &base, &mut sweep)?;

@@ -10,8 +10,8 @@ use crate::wrong_br_edr::{Slip, WrongBrEdr, SLIPS};
 #[test]
 fn the_switches_agree_on_the_reference_hub() {
     let sweep = br_edr_agrees(&mut Lent::new(Mirror::default())).expect("no difference");
-    assert_eq!((sweep.states, sweep.well_formed, sweep.images), (3 * 256 * 14, 289, 96));
-    assert!(sweep.started > 500 && sweep.calls > 13_000 && sweep.beyond > 150, "{sweep}");
+    assert_eq!((sweep.states, sweep.well_formed, sweep.images), (3 * 256 * 14, 289, 192));
+    assert!(sweep.started > 500 && sweep.calls > 13_000 && sweep.off > 150, "{sweep}");
 }
 
 #[test]
@@ -33,8 +33,8 @@ fn random_lists_find_slips_too() {
         Slip::BitByPublic,
         Slip::LowEnergyOffTaken,
         Slip::DiscoverableTaken,
-        Slip::SaveTaken,
-        Slip::SaveBeforeRoom,
+        Slip::SaveRefused,
+        Slip::SaveSaysOn,
         Slip::NotBusy,
         Slip::MakesNotBusy,
         Slip::KeysGo,

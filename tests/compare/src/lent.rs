@@ -1,7 +1,7 @@
 //! A state buffer lent to a target, and what has to hold of every call on it.
 
 use crate::layout::WAITING;
-use crate::target::Target;
+use crate::target::{Move, Target};
 use reference::codes::answer;
 use reference::{Call, Reply};
 
@@ -182,6 +182,13 @@ impl<T: Target> Lent<T> {
         need(count == 0, || format!("load counts {count} octets"))?;
         self.check_state(answer, length)?;
         Ok(answer)
+    }
+
+    /// Moves an image to the other version, with this room for it.
+    pub fn moved(&mut self, way: Move, image: &[u8], room: usize) -> Result<Reply, Difference> {
+        self.before_call(room);
+        let number = self.target.moved(way, image, &mut self.reply[..room]);
+        self.after_question(number, room, T::STATE_LEN)
     }
 
     /// Octets behind the state stay, and after a refusal all of them.

@@ -13,6 +13,7 @@ pub mod broken;
 #[cfg(test)]
 mod example_tests;
 pub mod identities;
+pub mod images;
 pub mod layout;
 pub mod lent;
 pub mod look_up;
@@ -32,6 +33,9 @@ pub mod switches;
 pub mod target;
 #[cfg(test)]
 mod tests;
+pub mod versions;
+#[cfg(test)]
+mod versions_tests;
 pub mod waiting;
 pub mod waiting_states;
 pub mod why;
@@ -39,6 +43,8 @@ pub mod why;
 mod why_tests;
 #[cfg(test)]
 mod wrong_br_edr;
+#[cfg(test)]
+mod wrong_images;
 #[cfg(test)]
 mod wrong_look_up;
 #[cfg(test)]

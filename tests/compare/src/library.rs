@@ -1,6 +1,6 @@
 //! The C library, called through its header's functions.
 
-use compare::Target;
+use compare::target::{Move, Target};
 use reference::Call;
 
 extern "C" {
@@ -81,6 +81,10 @@ extern "C" {
     ) -> u64;
     /// A state is made from an image.
     fn hub_load(state: *mut u8, state_len: usize, image: *const u8, image_len: usize) -> u64;
+    /// An image is moved from version 1 to version 2.
+    fn hub_upgrade(image: *const u8, image_len: usize, out: *mut u8, out_len: usize) -> u64;
+    /// An image is moved from version 2 back to version 1.
+    fn hub_downgrade(image: *const u8, image_len: usize, out: *mut u8, out_len: usize) -> u64;
 }
 
 /// The functions of libhub.a.
@@ -148,5 +152,14 @@ impl Target for Library {
     fn load(&mut self, state: &mut [u8], image: &[u8]) -> u64 {
         // As above: two slices that do not overlap, for the time of the call.
         unsafe { hub_load(state.as_mut_ptr(), state.len(), image.as_ptr(), image.len()) }
+    }
+
+    fn moved(&self, way: Move, image: &[u8], out: &mut [u8]) -> u64 {
+        let moved = match way {
+            Move::Upgrade => hub_upgrade,
+            Move::Downgrade => hub_downgrade,
+        };
+        // As above.
+        unsafe { moved(image.as_ptr(), image.len(), out.as_mut_ptr(), out.len()) }
     }
 }

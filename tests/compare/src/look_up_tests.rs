@@ -43,7 +43,7 @@ fn a_slip_shrinks_to_few_calls() {
 #[test]
 fn look_ups_are_drawn_after_each_call_and_after_each_list() {
     let mut comparison = Comparison::new(6, Mirror::default(), Mirror::default());
-    if let Err(failure) = comparison.run(5_000) {
+    if let Err(failure) = comparison.run(8_000) {
         panic!("{}", failure.difference);
     }
     assert_eq!(comparison.looked_up, comparison.calls + comparison.runs * LOOK_UPS);

@@ -7,6 +7,7 @@ use compare::br_edr::br_edr_agrees;
 use compare::run::{Comparison, Failure};
 use compare::shrink::shrink;
 use compare::stream::stream_agrees;
+use compare::versions::versions_agree;
 use library::Library;
 use reference::Call;
 use std::process::ExitCode;
@@ -81,6 +82,7 @@ fn main() -> ExitCode {
     let sweeps = addresses_agree(comparison.lent()).map(|sweep| sweep.to_string());
     let sweeps = sweeps.and_then(|first| Ok(format!("{first}\n{}", br_edr_agrees(comparison.lent())?)));
     let sweeps = sweeps.and_then(|first| Ok(format!("{first}\n{}", stream_agrees(comparison.lent())?)));
+    let sweeps = sweeps.and_then(|first| Ok(format!("{first}\n{}", versions_agree(comparison.lent())?)));
     match sweeps {
         Ok(sweeps) => println!("{sweeps}"),
         Err(difference) => {

@@ -8,11 +8,11 @@ use crate::layout::{
     block, encode, ADVERTISING, IDENTITY_KEYS, LONG_TERM_KEYS, OPEN, STATE, STATIC_ADDRESS, WAITING,
 };
 use crate::switches;
-use crate::target::Target;
+use crate::target::{Move, Target};
 use crate::waiting;
 use reference::codes::answer;
 use reference::reason::ArgumentFault;
-use reference::{Call, Hub, LookUp, Reply};
+use reference::{downgrade, upgrade, Call, Hub, LookUp, Reply};
 use std::collections::VecDeque;
 
 /// How many states are kept: more than come from altered states between two uses of a list's own.
@@ -29,6 +29,14 @@ pub struct Mirror {
 pub fn number(reply: &Reply, buffer: &mut [u8]) -> u64 {
     buffer[..reply.octets.len()].copy_from_slice(&reply.octets);
     u64::from(reply.answer) + 256 * reply.octets.len() as u64 + ((reply.taken as u64) << 32)
+}
+
+/// What a move of an image gives.
+pub fn moved(way: Move, image: &[u8], room: usize) -> Reply {
+    match way {
+        Move::Upgrade => upgrade(image, room),
+        Move::Downgrade => downgrade(image, room),
+    }
 }
 
 /// The number that a C host gets for a look-up.
@@ -146,5 +154,9 @@ impl Target for Mirror {
             self.write(state, hub);
         }
         given.answer.into()
+    }
+
+    fn moved(&self, way: Move, image: &[u8], out: &mut [u8]) -> u64 {
+        number(&moved(way, image, out.len()), out)
     }
 }

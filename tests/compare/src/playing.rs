@@ -38,6 +38,7 @@ pub fn play<T: Target>(example: &Example, target: T) -> Result<usize, String> {
         let (came, extra) = match &line.step {
             Step::Call(call) => (lent.call(call)?, 0),
             Step::Load(image) => (Reply::bare(lent.load(image)?), 0),
+            Step::Move { way, image, room } => (lent.moved(*way, image, *room)?, 0),
             Step::OnAir { index, room } => (lent.on_air(*index, *room, T::STATE_LEN)?, 0),
             Step::Why { packet, room } => lent.why(packet, *room, T::STATE_LEN)?,
             Step::LookUp { index, table, key } => {

@@ -2,6 +2,7 @@
 
 use crate::altered::{altered_states_agree, Altered};
 use crate::broken::broken_tables_agree;
+use crate::images::{image_agrees, images_agree, tried_agrees};
 use crate::layout::{cleared, encode, encode_at_once, same_state};
 use crate::lent::{Difference, Lent};
 use crate::look_up::{look_up_of_no_state, question_agrees};
@@ -40,7 +41,7 @@ pub struct Comparison<T: Target> {
     pub calls: usize,
     /// Lists run.
     pub runs: usize,
-    /// Images loaded beside those that lists start from.
+    /// Images loaded and moved beside those that lists start from.
     pub images: usize,
     /// Calls left over by the reduction and fed to the at-once hub.
     pub reduced: usize,
@@ -102,25 +103,6 @@ pub fn step<T: Target>(lent: &mut Lent<T>, hub: &mut Hub, call: &Call) -> Result
     Ok(found)
 }
 
-/// Loads an image on both and compares the answers and, if it is taken, what it makes; tells whether it is.
-pub fn image_agrees<T: Target>(lent: &mut Lent<T>, hub: &mut Hub, image: &[u8]) -> Result<bool, Difference> {
-    let expected = hub.load(image).answer;
-    let found = lent.load(image)?;
-    if expected != found {
-        return Err(format!("load answers {found}, expected {expected}"));
-    }
-    if found == answer::DONE {
-        same_state("the state of an image", &encode(hub), lent.state())?;
-    }
-    Ok(found == answer::DONE)
-}
-
-/// Compares the images of both.
-pub fn images_agree<T: Target>(lent: &mut Lent<T>, expected: &Reply) -> Result<(), Difference> {
-    let found = lent.call(&Call::Save { room: IMAGE_ROOM })?;
-    same("the saved image differs", expected, &found)
-}
-
 impl<T: Target> Comparison<T> {
     /// A comparison of two targets alike, one for the lists and one for the
     /// reduced lists.
@@ -158,8 +140,9 @@ impl<T: Target> Comparison<T> {
             self.run_list()?;
             self.runs += 1;
             for _ in 0..IMAGES {
-                let image = self.lists.image();
-                let result = self.compare_image(&image);
+                let (image, room) = self.lists.image();
+                self.images += 1;
+                let result = tried_agrees(&mut self.lent, &image, room).map(|_| ());
                 let failure = |difference| Failure { image, calls: Vec::new(), look_up: None, difference };
                 result.map_err(failure)?;
             }
@@ -265,16 +248,6 @@ impl<T: Target> Comparison<T> {
         altered_states_agree(&mut self.lent, hub, &mut self.random, &mut self.altered)?;
         altered_waiting_agrees(&mut self.lent, hub, &mut self.random, &mut self.altered_waiting)?;
         self.broken += broken_tables_agree(&mut self.lent, hub, &mut self.random)?;
-        Ok(())
-    }
-
-    /// Loads an image on both and compares what it makes.
-    fn compare_image(&mut self, image: &[u8]) -> Result<(), Difference> {
-        self.images += 1;
-        let mut hub = Hub::new();
-        if image_agrees(&mut self.lent, &mut hub, image)? {
-            images_agree(&mut self.lent, &hub.save(IMAGE_ROOM))?;
-        }
         Ok(())
     }
 

@@ -1,5 +1,6 @@
 //! Examples in words: calls, and what each gives. `examples/README.md` has the grammar.
 
+use crate::target::Move;
 use reference::codes::{answer, IMAGE_ROOM, REPLY_ROOM, SLOTS};
 use reference::why::TEXT_ROOM;
 use reference::{Call, Reply};
@@ -10,6 +11,15 @@ pub enum Step {
     Call(Call),
     /// A load of an image.
     Load(Vec<u8>),
+    /// An image is moved to the other version.
+    Move {
+        /// Which way.
+        way: Move,
+        /// The image.
+        image: Vec<u8>,
+        /// Length of the buffer for what it gives.
+        room: usize,
+    },
     /// What is on air is asked for.
     OnAir {
         /// The controller.
@@ -133,6 +143,10 @@ fn step(words: &[&str], room: Option<usize>) -> Step {
     let replies = room.unwrap_or(REPLY_ROOM);
     Step::Call(match words[0] {
         "load" => return Step::Load(octets(&words[1..])),
+        "upgrade" | "downgrade" => {
+            let way = if words[0] == "upgrade" { Move::Upgrade } else { Move::Downgrade };
+            return Step::Move { way, image: octets(&words[1..]), room: room.unwrap_or(IMAGE_ROOM) };
+        }
         "on-air" => return Step::OnAir { index: number(1), room: replies },
         "look-up" => {
             return Step::LookUp { index: number(1), table: table(words[2]), key: octets(&words[3..]) };

@@ -1,9 +1,10 @@
 //! Shorter lists that show the same kind of difference.
 
+use crate::images::{image_agrees, images_agree, tried_agrees};
 use crate::lent::{Difference, Lent};
 use crate::look_up::question_agrees;
 use crate::questions::questions_agree;
-use crate::run::{image_agrees, images_agree, step, Failure};
+use crate::run::{step, Failure};
 use crate::target::Target;
 use calls::look_ups::Question;
 use reference::codes::IMAGE_ROOM;
@@ -18,6 +19,9 @@ pub fn replay<T: Target>(
     look_up: Option<&Question>,
 ) -> Option<Difference> {
     let mut hub = Hub::new();
+    if let Err(difference) = tried_agrees(lent, image, IMAGE_ROOM) {
+        return Some(difference);
+    }
     if let Err(difference) = image_agrees(lent, &mut hub, image) {
         return Some(difference);
     }

@@ -1,10 +1,11 @@
 //! Packets of every form off the serial line, cut at every place and in lumps of one length: what a target gives is what the reference hub
 //! gives, and what its own command call gives for the whole packet. Then what waits beside every other call, and lumps without room.
 
+use crate::images::image_agrees;
 use crate::layout::{encode, same_state};
 use crate::lent::{Difference, Lent};
 use crate::questions::questions_agree;
-use crate::run::{image_agrees, same, step};
+use crate::run::{same, step};
 use crate::target::Target;
 use crate::waiting_states::waiting_states_agree;
 use calls::pools::high_address;

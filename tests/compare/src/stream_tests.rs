@@ -51,7 +51,7 @@ fn a_slip_about_lumps_shrinks_to_few_calls() {
 #[test]
 fn random_lists_have_lumps_and_leave_something_waiting() {
     let mut comparison = Comparison::new(6, Mirror::default(), Mirror::default());
-    assert!(comparison.run(20_000).is_ok());
+    assert!(comparison.run(30_000).is_ok());
     assert!(comparison.lumps > 3_000 && comparison.left_waiting > 3, "{} lumps", comparison.lumps);
     let altered = comparison.altered_waiting;
     assert!(altered.well_formed > 40 && altered.lent - altered.well_formed > 40, "{altered:?}");

@@ -2,6 +2,15 @@
 
 use reference::Call;
 
+/// Which way an image is moved.
+#[derive(Clone, Copy, PartialEq, Eq, Debug)]
+pub enum Move {
+    /// From version 1 to version 2.
+    Upgrade,
+    /// From version 2 back to version 1.
+    Downgrade,
+}
+
 /// The calls of a hub whose state is a lent buffer. Each gives one number:
 /// answer + 256 x count + 2^32 x a second number, which lumps, `why` and `look_up` alone give.
 pub trait Target {
@@ -25,4 +34,7 @@ pub trait Target {
 
     /// A load.
     fn load(&mut self, state: &mut [u8], image: &[u8]) -> u64;
+
+    /// An image is moved to the other version; no state is lent.
+    fn moved(&self, way: Move, image: &[u8], out: &mut [u8]) -> u64;
 }

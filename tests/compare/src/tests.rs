@@ -10,7 +10,7 @@ use crate::run::{Comparison, Failure};
 use crate::schedule::read;
 use crate::shrink::shrink;
 use crate::switches;
-use crate::target::Target;
+use crate::target::{Move, Target};
 use crate::wrong_rule::{Rule, WrongRule};
 use reference::codes::command as code;
 use reference::controller::Controller;
@@ -148,9 +148,13 @@ impl Target for Faulty {
     fn load(&mut self, state: &mut [u8], image: &[u8]) -> u64 {
         let number = self.inner.load(state, image);
         match self.fault {
-            Fault::Image if number == 7 && image.get(4).is_some_and(|version| *version != 1) => 0,
+            Fault::Image if number == 7 && image.get(4).is_some_and(|version| *version > 2) => 0,
             _ => number,
         }
+    }
+
+    fn moved(&self, way: Move, image: &[u8], out: &mut [u8]) -> u64 {
+        self.inner.moved(way, image, out)
     }
 }
 

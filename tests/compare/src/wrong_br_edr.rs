@@ -3,8 +3,8 @@
 use crate::layout::{block, encode, HARDWARE, OPEN};
 use crate::mirror::{number, Mirror};
 use crate::switches::{BR_EDR, DISCOVERABLE, LOW_ENERGY};
-use crate::target::Target;
-use calls::draft::Draft;
+use crate::target::{Move, Target};
+use calls::draft::{ControllerDraft, Draft};
 use reference::codes::{answer, command as code, setting, status, CONTROLLERS, IMAGE_ROOM, REPLY_ROOM};
 use reference::command::Command;
 use reference::controller::Controller;
@@ -13,7 +13,7 @@ use reference::packet::{command_status, frame, little_endian, Packet};
 use reference::reason::Reason;
 use reference::table::Table;
 use reference::why::{text, Fault, TEXT_ROOM};
-use reference::{image, Call, Hub, Reply};
+use reference::{Call, Hub, Reply};
 
 /// What a hub does wrong.
 #[derive(Clone, Copy, PartialEq, Eq, Debug)]
@@ -44,14 +44,10 @@ pub enum Slip {
     DiscoverableOffRefused,
     /// Set Low Energy 0 goes by support alone, and turns BR/EDR on.
     LowEnergyTurnsOn,
-    /// A save is answered 0 with BR/EDR off.
-    SaveTaken,
-    /// A save looks at the first controller alone.
-    SaveLooksAtFirst,
-    /// A save answers 8 before 4.
-    SaveBeforeRoom,
-    /// A save is answered 8 where BR/EDR is not supported.
-    SaveWithoutSupport,
+    /// A save is answered 8 with BR/EDR off.
+    SaveRefused,
+    /// A save says that BR/EDR is on as supported.
+    SaveSaysOn,
     /// It is not Busy while another command is under way.
     NotBusy,
     /// It does not make others Busy.
@@ -70,7 +66,7 @@ pub enum Slip {
     PlugOff,
     /// Load leaves it off where LE is on.
     LoadOff,
-    /// Load takes flag bit 7.
+    /// Load takes flag bit 7 in version 1.
     FlagTaken,
     /// 2 is a value, for on.
     TwoIsOn,
@@ -101,7 +97,7 @@ pub enum Slip {
 }
 
 /// All slips.
-pub const SLIPS: [Slip; 40] = [
+pub const SLIPS: [Slip; 38] = [
     Slip::OffWhilePowered,
     Slip::OnWithStatic,
     Slip::OnAgainWithStatic,
@@ -115,10 +111,8 @@ pub const SLIPS: [Slip; 40] = [
     Slip::DiscoverableTaken,
     Slip::DiscoverableOffRefused,
     Slip::LowEnergyTurnsOn,
-    Slip::SaveTaken,
-    Slip::SaveLooksAtFirst,
-    Slip::SaveBeforeRoom,
-    Slip::SaveWithoutSupport,
+    Slip::SaveRefused,
+    Slip::SaveSaysOn,
     Slip::NotBusy,
     Slip::MakesNotBusy,
     Slip::AtOnce,
@@ -324,22 +318,17 @@ impl WrongBrEdr {
 
     /// A save.
     fn saved(&self, hub: &Hub, room: usize) -> Option<Reply> {
-        let (state, right) = (hub.state(), hub.save(room));
-        let first = state.controllers.iter().flatten().next();
-        let any_off = state.controllers.iter().flatten().any(|controller| !controller.br_edr);
-        match (self.slip, right.answer) {
-            (Slip::SaveTaken, answer::NOT_IN_IMAGE) => {}
-            (Slip::SaveLooksAtFirst, answer::NOT_IN_IMAGE) if first.is_some_and(|it| it.br_edr) => {}
-            (Slip::SaveBeforeRoom, answer::ROOM) if state.is_beyond_images() => {
-                return Some(Reply::bare(answer::NOT_IN_IMAGE));
-            }
-            (Slip::SaveWithoutSupport, answer::DONE) if any_off => {
-                return Some(Reply::bare(answer::NOT_IN_IMAGE));
-            }
-            _ => return None,
+        if room < IMAGE_ROOM || !hub.state().has_br_edr_off() {
+            return None;
         }
-        debug_assert!(room >= IMAGE_ROOM);
-        Some(Reply::new(answer::DONE, image::save(state)))
+        match self.slip {
+            Slip::SaveRefused => Some(Reply::bare(answer::NOT_IN_IMAGE)),
+            Slip::SaveSaysOn => {
+                let on = |it: &mut Controller| it.br_edr = it.hardware.supports_br_edr();
+                Some((0..CONTROLLERS).fold(hub.clone(), |hub, index| edited(&hub, index, on)).save(room))
+            }
+            _ => None,
+        }
     }
 
     /// Which reason this hub tells of a packet.
@@ -425,7 +414,8 @@ impl Target for WrongBrEdr {
     fn load(&mut self, state: &mut [u8], image: &[u8]) -> u64 {
         let number = self.inner.load(state, image);
         let draft = Draft::of(image);
-        let flagged = |draft: &Draft| draft.controllers.iter().any(|it| it.flags & setting::BR_EDR != 0);
+        let on = |it: &ControllerDraft| it.flags & setting::BR_EDR != 0;
+        let flagged = |draft: &Draft| draft.version == 1 && draft.controllers.iter().any(on);
         match self.slip {
             Slip::FlagTaken if draft.as_ref().is_some_and(flagged) => answer::DONE.into(),
             Slip::LoadOff if number == answer::DONE.into() => {
@@ -436,5 +426,9 @@ impl Target for WrongBrEdr {
             }
             _ => number,
         }
+    }
+
+    fn moved(&self, way: Move, image: &[u8], out: &mut [u8]) -> u64 {
+        self.inner.moved(way, image, out)
     }
 }

@@ -3,7 +3,7 @@
 use crate::broken::{RECORDS, WORDS};
 use crate::layout::block;
 use crate::mirror::{look_up_number, Mirror};
-use crate::target::Target;
+use crate::target::{Move, Target};
 use reference::codes::{answer, CONTROLLERS, SLOTS};
 use reference::look_up::{key_length, slot_keys, TABLES};
 use reference::{Call, Hub, LookUp};
@@ -296,5 +296,9 @@ impl Target for WrongLookUp {
             self.last.copy_from_slice(state);
         }
         number
+    }
+
+    fn moved(&self, way: Move, image: &[u8], out: &mut [u8]) -> u64 {
+        self.inner.moved(way, image, out)
     }
 }

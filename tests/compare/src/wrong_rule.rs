@@ -3,7 +3,7 @@
 use crate::addresses::{Carrier, Field};
 use crate::layout::{block, slot, IDENTITY_KEYS, LONG_TERM_KEYS, STATIC_ADDRESS};
 use crate::mirror::Mirror;
-use crate::target::Target;
+use crate::target::{Move, Target};
 use calls::draft::Draft;
 use reference::codes::{answer, command as code, CONTROLLERS, SLOTS};
 use reference::packet::Packet;
@@ -131,5 +131,10 @@ impl Target for WrongRule {
     fn load(&mut self, state: &mut [u8], image: &[u8]) -> u64 {
         let otherwise = self.otherwise(Carrier::Image, image, answer::IMAGE);
         otherwise.unwrap_or_else(|| self.inner.load(state, image))
+    }
+
+    fn moved(&self, way: Move, image: &[u8], out: &mut [u8]) -> u64 {
+        let otherwise = self.otherwise(Carrier::Image, image, answer::IMAGE);
+        otherwise.unwrap_or_else(|| self.inner.moved(way, image, out))
     }
 }

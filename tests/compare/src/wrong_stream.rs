@@ -2,7 +2,7 @@
 
 use crate::layout::{STATE, WAITING};
 use crate::mirror::{number, Mirror};
-use crate::target::Target;
+use crate::target::{Move, Target};
 use crate::waiting::{read, KEPT};
 use reference::codes::{answer, REPLY_ROOM};
 use reference::packet::{little_endian, HEADER};
@@ -458,5 +458,9 @@ impl Target for WrongStream {
             }
         }
         number
+    }
+
+    fn moved(&self, way: Move, image: &[u8], out: &mut [u8]) -> u64 {
+        self.inner.moved(way, image, out)
     }
 }

@@ -1,7 +1,7 @@
 //! The reference hub with a slip in what it tells of packets, to try the comparison of it.
 
 use crate::mirror::{number, Mirror};
-use crate::target::Target;
+use crate::target::{Move, Target};
 use reference::codes::{answer, command as code, status, REPLY_ROOM};
 use reference::packet::{Packet, HEADER};
 use reference::reason::Reason;
@@ -222,5 +222,9 @@ impl Target for WrongWhy {
 
     fn load(&mut self, state: &mut [u8], image: &[u8]) -> u64 {
         self.inner.load(state, image)
+    }
+
+    fn moved(&self, way: Move, image: &[u8], out: &mut [u8]) -> u64 {
+        self.inner.moved(way, image, out)
     }
 }

@@ -174,7 +174,7 @@ pub mod answer {
     pub const ARGUMENT: u8 = 6;
     /// The image is not acceptable.
     pub const IMAGE: u8 = 7;
-    /// The image has no place for what would be saved.
+    /// Images of version 1 have no place for what the image says.
     pub const NOT_IN_IMAGE: u8 = 8;
     /// No packet is finished.
     pub const INCOMPLETE: u8 = 9;
@@ -208,7 +208,7 @@ pub const CONTROLLERS: usize = 4;
 pub const SLOTS: usize = 32;
 /// The least reply buffer of every call but save.
 pub const REPLY_ROOM: usize = 1024;
-/// The least reply buffer of save: the largest image.
+/// The least buffer for an image: the largest one.
 pub const IMAGE_ROOM: usize = 16_014;
 /// Octets of a local name.
 pub const NAME: usize = 249;

@@ -40,6 +40,14 @@ impl LocalName {
         octets.split(|octet| *octet == 0).next()
     }
 
+    /// Adds the used part of both, each behind its length.
+    pub fn write_used(&self, out: &mut Vec<u8>) {
+        for used in [0, 1].into_iter().filter_map(|which| self.used(which)) {
+            out.push(used.len() as u8);
+            out.extend_from_slice(used);
+        }
+    }
+
     /// The 260 octets.
     pub fn octets(&self) -> Vec<u8> {
         let mut out = Vec::with_capacity(NAME + SHORT_NAME);
@@ -203,8 +211,8 @@ impl Controller {
         self.timer = None;
     }
 
-    /// Whether it has something that images cannot tell: BR/EDR turned off, where they take it to be on as supported.
-    pub fn is_beyond_images(&self) -> bool {
+    /// Whether BR/EDR is off though it is supported.
+    pub fn has_br_edr_off(&self) -> bool {
         self.hardware.supports_br_edr() && !self.br_edr
     }
 

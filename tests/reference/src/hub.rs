@@ -278,11 +278,5 @@ pub(crate) fn clock(state: &mut State, reading: u32, room: usize) -> Reply {
 
 /// A save call on either hub.
 pub(crate) fn save(state: &State, room: usize) -> Reply {
-    if let Some(reply) = room_fault(room, IMAGE_ROOM) {
-        reply
-    } else if state.is_beyond_images() {
-        Reply::bare(answer::NOT_IN_IMAGE)
-    } else {
-        done(image::save(state))
-    }
+    room_fault(room, IMAGE_ROOM).unwrap_or_else(|| done(image::save(state)))
 }

@@ -1,7 +1,7 @@
 //! A Bluetooth management hub for up to four controllers, written plainly from
 //! the rules: the hub itself, which takes packets or octets off a serial line,
-//! the at-once hub that knows no radio, and the reduction of a list of calls on
-//! the first to a list for the second.
+//! the at-once hub that knows no radio, the reduction of a list of calls on
+//! the first to a list for the second, and images moved from version to version.
 
 #![forbid(unsafe_code)]
 #![warn(missing_docs)]
@@ -17,6 +17,7 @@ pub mod effects;
 pub mod hub;
 pub mod image;
 pub mod look_up;
+pub mod moves;
 pub mod packet;
 pub mod reason;
 pub mod records;
@@ -30,6 +31,7 @@ pub use at_once::AtOnceHub;
 pub use call::{Call, Reply, Traced};
 pub use hub::Hub;
 pub use look_up::LookUp;
+pub use moves::{downgrade, upgrade};
 pub use reduction::reduce;
 pub use stream::Waiting;
 pub use why::Fault;

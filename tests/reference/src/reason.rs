@@ -227,7 +227,7 @@ pub enum ImageFault {
     Short,
     /// The length field is not the number of octets.
     Length,
-    /// The version octet is not 1.
+    /// The version octet is none of those that are taken.
     Version,
     /// More than four controllers.
     ControllerCount,
@@ -235,20 +235,24 @@ pub enum ImageFault {
     Index,
     /// What plug would refuse of address and supported settings.
     Plug(ArgumentFault),
-    /// Flags other than bits 1, 4 and 9.
+    /// Flags that the version does not have.
     Flags,
+    /// BR/EDR on without BR/EDR support.
+    BrEdrOn,
     /// LE on without LE support.
     LowEnergyOn,
-    /// LE off where there is no BR/EDR.
-    LowEnergyOff,
+    /// LE off where BR/EDR is off too, or not supported.
+    BothOff,
     /// A static address that the command would refuse.
     StaticAddress,
     /// A static address without LE support.
     StaticUnsupported,
-    /// The name does not end in zero.
-    NameEnd,
-    /// The short name does not end in zero.
-    ShortNameEnd,
+    /// The name, number 0, or the short name, number 1, does not end in zero.
+    NameEnd(u8),
+    /// More octets of a name than it has before its last.
+    NameLength(u8),
+    /// A zero in the used part of a name.
+    NameZero(u8),
     /// A table of more than 32 records; the tables count from 0.
     TableCount(u8),
     /// A record that its command would refuse, or a repeated one.

@@ -121,9 +121,9 @@ impl State {
         }
     }
 
-    /// Whether a controller has something that images cannot tell.
-    pub fn is_beyond_images(&self) -> bool {
-        self.controllers.iter().flatten().any(Controller::is_beyond_images)
+    /// Whether a controller has BR/EDR off though it is supported.
+    pub fn has_br_edr_off(&self) -> bool {
+        self.controllers.iter().flatten().any(Controller::has_br_edr_off)
     }
 
     /// Why a clock reading is refused, if it is.

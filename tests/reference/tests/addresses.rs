@@ -57,17 +57,21 @@ fn list_loads(code: u16, records: &[Vec<u8>]) -> bool {
     is_done(&mut hub, code, &le_list(records), complete(code, 0, 0, &[]))
 }
 
-/// Whether an image loads, and is then the one that is saved; else it is refused with 7, and the hub is as it was.
-fn image_loads(image: &[u8]) -> bool {
+/// Whether an image of two versions loads, and is then the one of version 2 that is saved; else both are refused with 7, and the hub is as
+/// it was.
+fn image_loads([first, second]: [Vec<u8>; 2]) -> bool {
     let mut hub = timed_hub(9);
     let before = hub.clone();
-    let reply = hub.load(image);
+    let reply = hub.load(&first);
     if reply == bare(7) {
+        assert_eq!(hub.load(&second), reply);
         assert_eq!(hub, before);
         return false;
     }
     assert_eq!(reply, bare(0));
-    assert_eq!(common::image(&hub), image);
+    assert_eq!(common::image(&hub), second);
+    assert_eq!(hub.load(&second), bare(0));
+    assert_eq!(common::image(&hub), second);
     true
 }
 
@@ -81,12 +85,12 @@ fn identity_key_of(address: [u8; 6], kind: u8) -> Vec<u8> {
     [&address[..], &[kind], &identity_key(1, kind)[7..]].concat()
 }
 
-/// An image with this static address, these long term and these identity resolving keys.
-fn image_of(static_address: [u8; 6], long_term_keys: &[Vec<u8>], identity_keys: &[Vec<u8>]) -> Vec<u8> {
+/// An image with this static address, these long term and these identity resolving keys, in both versions.
+fn image_of(static_address: [u8; 6], long_term_keys: &[Vec<u8>], identity_keys: &[Vec<u8>]) -> [Vec<u8>; 2] {
     let mut tables = no_tables();
     tables[2] = long_term_keys.to_vec();
     tables[3] = identity_keys.to_vec();
-    image_with(DUAL, 0x0200, static_address, &tables)
+    [1, 2].map(|version| image_in(version, DUAL, 0x0200, static_address, &tables))
 }
 
 #[test]
@@ -167,13 +171,13 @@ fn identity_key_lists() {
 
 #[test]
 fn images() {
-    sweep(|address| image_loads(&image_of(address, &[], &[])));
-    sweep(|address| image_loads(&image_of(STATIC, &[long_term_key_of(address, RANDOM_TYPE)], &[])));
-    sweep(|address| image_loads(&image_of(STATIC, &[], &[identity_key_of(address, RANDOM_TYPE)])));
+    sweep(|address| image_loads(image_of(address, &[], &[])));
+    sweep(|address| image_loads(image_of(STATIC, &[long_term_key_of(address, RANDOM_TYPE)], &[])));
+    sweep(|address| image_loads(image_of(STATIC, &[], &[identity_key_of(address, RANDOM_TYPE)])));
     sweep(|address| {
         let (long_term, identity) = (long_term_key(3, 2, 0), identity_key(3, 2));
         let records = [long_term, long_term_key_of(address, RANDOM_TYPE)];
-        image_loads(&image_of([0; 6], &records, &[identity]))
+        image_loads(image_of([0; 6], &records, &[identity]))
     });
 }
 
@@ -182,13 +186,15 @@ fn images_with_either_address_are_answered_7() {
     for address in ALIKE {
         let long_term = image_of([0; 6], &[long_term_key_of(address, RANDOM_TYPE)], &[]);
         let identity = image_of([0; 6], &[], &[identity_key_of(address, RANDOM_TYPE)]);
-        for (image, fault) in [
+        for (images, fault) in [
             (image_of(address, &[], &[]), ImageFault::StaticAddress),
             (long_term, ImageFault::Record(2, Reason::RandomAddress)),
             (identity, ImageFault::Record(3, Reason::RandomAddress)),
         ] {
-            assert_eq!(load(&image).err(), Some(fault));
-            assert!(!image_loads(&image));
+            for image in &images {
+                assert_eq!(load(image).err(), Some(fault));
+            }
+            assert!(!image_loads(images));
         }
     }
 }
@@ -200,7 +206,7 @@ fn any_address_is_taken_as_le_public_or_br_edr() {
             (long_term_key_of(address, PUBLIC_TYPE), identity_key_of(address, PUBLIC_TYPE));
         assert!(list_loads(0x0013, std::slice::from_ref(&long_term)));
         assert!(list_loads(0x0030, std::slice::from_ref(&identity)));
-        assert!(image_loads(&image_of(STATIC, &[long_term], &[identity])));
+        assert!(image_loads(image_of(STATIC, &[long_term], &[identity])));
         let mut hub = hub_with(DUAL);
         let link = [&address[..], &link_key(1)[6..]].concat();
         assert_eq!(send(&mut hub, 0x0012, 0, &link_list(&[link])), done(complete(0x0012, 0, 0, &[])));

@@ -3,7 +3,7 @@
 mod common;
 
 use common::*;
-use reference::{Call, Hub};
+use reference::{downgrade, Call, Hub};
 
 /// What is said of a command to index 0.
 fn why(hub: &Hub, code: u16, parameters: &[u8]) -> String {
@@ -180,23 +180,22 @@ fn keys_go_by_support() {
 }
 
 #[test]
-fn a_hub_with_it_off_is_not_saved() {
+fn a_saved_image_says_that_it_is_off() {
     let mut hub = le_hub();
+    plug(&mut hub, 1, DUAL);
     plug(&mut hub, 2, LE_ONLY);
     for room in [0, 1024, 16_013] {
         assert_eq!(hub.save(room), bare(4));
     }
-    for room in [16_014, 20_000] {
-        assert_eq!(hub.save(room), bare(8));
-    }
-    assert_eq!(send(&mut hub, 0x002A, 0, &[1]).answer, 0);
     let saved = image(&hub);
+    assert_eq!(hub.save(20_000), done(saved.clone()));
     let mut again = Hub::new();
     assert_eq!(again.load(&saved), bare(0));
-    assert_eq!(settings(&mut again, 0), 0x0280);
-    assert_eq!(settings(&mut again, 2), 0x0200);
-    assert_eq!(hub.unplug(0, 1024).answer, 0);
-    assert_eq!(hub.save(16_014).answer, 0);
+    assert_eq!([0, 1, 2].map(|index| settings(&mut again, index)), [0x0200, 0x0280, 0x0200]);
+    assert_eq!(image(&again), saved);
+    assert_eq!(downgrade(&saved, 16_014), bare(8));
+    assert_eq!(send(&mut hub, 0x002A, 0, &[1]).answer, 0);
+    assert_eq!(downgrade(&image(&hub), 16_014).answer, 0);
 }
 
 #[test]
@@ -204,23 +203,44 @@ fn the_at_once_hub_answers_alike() {
     let mut hub = at_once_hub();
     assert_eq!(hub.call(&command(0x002A, &[0])), done(changed(0x002A, 0, 0x0200)));
     assert_eq!(hub.call(&Call::Save { room: 16_013 }), bare(4));
-    assert_eq!(hub.call(&Call::Save { room: 16_014 }), bare(8));
+    let off = hub.call(&Call::Save { room: 16_014 });
+    assert_eq!((off.answer, &off.octets[20..24]), (0, &[0, 0, 0x02, 0][..]));
     assert_eq!(hub.call(&command(0x0005, &[1])), done(changed(0x0005, 0, 0x0201)));
     assert_eq!(hub.call(&command(0x002A, &[0])), refused(status(0x002A, 0, 0x0B)));
     assert_eq!(hub.call(&command(0x002A, &[1])), done(changed(0x002A, 0, 0x0281)));
-    assert_eq!(hub.call(&Call::Save { room: 16_014 }).answer, 0);
+    let on = hub.call(&Call::Save { room: 16_014 });
+    assert_eq!((on.answer, &on.octets[20..24]), (0, &[0, 0, 0x02, 0x80][..]));
 }
 
 #[test]
-fn image_flags_have_no_place_for_it() {
+fn version_1_has_no_flag_for_it() {
     let mut hub = Hub::new();
     for flags in [0x0080, 0x0280, 0x0092] {
-        assert_eq!(hub.load(&image_with(DUAL, flags, [0; 6], &no_tables())), bare(7));
+        assert_eq!(hub.load(&image_of(1, [DUAL, flags], [0; 6], &[0; 260], &no_tables())), bare(7));
     }
-    assert_eq!(hub.load(&image_with(DUAL, 0, [0; 6], &no_tables())), bare(0));
-    assert_eq!(settings(&mut hub, 1), 0x0080);
-    assert_eq!(hub.load(&image_with(DUAL, 0x0200, STATIC, &no_tables())), bare(0));
-    assert_eq!(settings(&mut hub, 1), 0x0280);
-    assert_eq!(hub.load(&image_with(LE_ONLY, 0x0200, STATIC, &no_tables())), bare(0));
-    assert_eq!(settings(&mut hub, 1), 0x8200);
+    for (supported, flags, address, read) in [
+        (DUAL, 0, [0; 6], 0x0080),
+        (DUAL, 0x0200, STATIC, 0x0280),
+        (CLASSIC, 0, [0; 6], 0x0080),
+        (LE_ONLY, 0x0200, STATIC, 0x8200),
+    ] {
+        assert_eq!(hub.load(&image_in(1, supported, flags, address, &no_tables())), bare(0));
+        assert_eq!(settings(&mut hub, 1), read);
+    }
+}
+
+#[test]
+fn version_2_has_a_flag_for_it() {
+    let mut hub = Hub::new();
+    for (supported, flags, address, read) in [
+        (DUAL, 0x0080, [0; 6], 0x0080),
+        (DUAL, 0x0280, STATIC, 0x0280),
+        (DUAL, 0x0200, STATIC, 0x8200),
+        (DUAL, 0x0212, [0; 6], 0x0212),
+        (CLASSIC, 0x0080, [0; 6], 0x0080),
+        (LE_ONLY, 0x0200, STATIC, 0x8200),
+    ] {
+        assert_eq!(hub.load(&image_of(2, [supported, flags], address, &[0; 2], &no_tables())), bare(0));
+        assert_eq!(settings(&mut hub, 1), read);
+    }
 }

@@ -3,7 +3,7 @@
 mod common;
 
 use common::*;
-use reference::Hub;
+use reference::{downgrade, upgrade, Hub};
 
 #[test]
 fn version_is_1_revision_10() {
@@ -91,22 +91,27 @@ fn clock_wraps_by_two() {
 
 #[test]
 fn empty_image() {
-    assert_eq!(Hub::new().save(16_014), done(vec![0, 0, 0, 6, 1, 0]));
-    let mut hub = timed_hub(5);
-    assert_eq!(hub.load(&[0, 0, 0, 6, 1, 0]), bare(0));
-    assert_eq!(hub, Hub::new());
+    assert_eq!(Hub::new().save(16_014), done(vec![0, 0, 0, 6, 2, 0]));
+    for version in [1, 2] {
+        let mut hub = timed_hub(5);
+        assert_eq!(hub.load(&[0, 0, 0, 6, version, 0]), bare(0));
+        assert_eq!(hub, Hub::new());
+    }
+    assert_eq!(upgrade(&[0, 0, 0, 6, 1, 0], 16_014), done(vec![0, 0, 0, 6, 2, 0]));
+    assert_eq!(downgrade(&[0, 0, 0, 6, 2, 0], 16_014), done(vec![0, 0, 0, 6, 1, 0]));
 }
 
-/// One controller of the largest image.
-fn full_controller(index: u8) -> Vec<u8> {
+/// One controller of the largest image of a version.
+fn full_controller(version: u8, index: u8) -> Vec<u8> {
     let mut out = vec![index];
     out.extend(PUBLIC);
-    out.extend([6, 0x12, 0x34, 0, 0, 0x02, 0x80, 0, 0, 0x02, 0x12]);
+    out.extend([6, 0x12, 0x34, 0, 0, 0x02, 0x80, 0, 0, 0x02, if version == 1 { 0x12 } else { 0x92 }]);
     out.extend(STATIC);
-    out.extend([b'n'; 248]);
-    out.push(0);
-    out.extend([b's'; 10]);
-    out.push(0);
+    for name in [vec![b'n'; 248], vec![b's'; 10]] {
+        out.extend(if version == 1 { vec![] } else { vec![name.len() as u8] });
+        out.extend(&name);
+        out.extend(if version == 1 { vec![0] } else { vec![] });
+    }
     let tables: [fn(u8) -> Vec<u8>; 6] = [
         |k| service(k + 1, k),
         link_key,
@@ -124,16 +129,23 @@ fn full_controller(index: u8) -> Vec<u8> {
 
 #[test]
 fn largest_image() {
-    let mut expected = vec![0, 0, 0x3E, 0x8E, 1, 4];
-    (0..4).for_each(|index| expected.extend(full_controller(index)));
-    assert_eq!(expected.len(), 16_014);
+    let [first, second] = [1, 2].map(|version| {
+        let mut image = vec![0, 0, 0x3E, 0x8E, version, 4];
+        (0..4).for_each(|index| image.extend(full_controller(version, index)));
+        assert_eq!(image.len(), 16_014);
+        image
+    });
     let mut hub = Hub::new();
     (0..4).for_each(|index| fill_controller(&mut hub, index));
-    assert_eq!(hub.save(16_014), done(expected.clone()));
+    assert_eq!(hub.save(16_014), done(second.clone()));
     assert_eq!(hub.save(16_013), bare(4));
-    let mut again = Hub::new();
-    assert_eq!(again.load(&expected), bare(0));
-    assert_eq!(again, hub);
+    for image in [&first, &second] {
+        let mut again = Hub::new();
+        assert_eq!(again.load(image), bare(0));
+        assert_eq!(again, hub);
+    }
+    assert_eq!(upgrade(&first, 16_014), done(second.clone()));
+    assert_eq!(downgrade(&second, 16_014), done(first));
 }
 
 /// Makes by commands what `full_controller` writes.

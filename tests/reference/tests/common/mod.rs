@@ -145,20 +145,41 @@ pub fn sized(mut image: Vec<u8>) -> Vec<u8> {
     image
 }
 
-/// One controller at index 1 with these settings words, static address and tables.
-pub fn image_with(supported: u32, flags: u32, address: [u8; 6], tables: &[Vec<Vec<u8>>; 6]) -> Vec<u8> {
-    let mut out = vec![0, 0, 0, 0, 1, 1, 1];
+/// One controller at index 1 in an image of a version, with these settings words, static address, names as that version writes
+/// them, and tables.
+pub fn image_of(
+    version: u8,
+    [supported, flags]: [u32; 2],
+    address: [u8; 6],
+    names: &[u8],
+    tables: &[Vec<Vec<u8>>; 6],
+) -> Vec<u8> {
+    let mut out = vec![0, 0, 0, 0, version, 1, 1];
     out.extend(PUBLIC);
     out.extend([6, 0x12, 0x34]);
     out.extend(supported.to_be_bytes());
     out.extend(flags.to_be_bytes());
     out.extend(address);
-    out.extend([0; 260]);
+    out.extend(names);
     for records in tables {
         out.push(records.len() as u8);
         out.extend(records.concat());
     }
     sized(out)
+}
+
+/// The same without a name and with BR/EDR on as supported; the flags are those beside it.
+pub fn image_in(
+    version: u8,
+    supported: u32,
+    flags: u32,
+    address: [u8; 6],
+    tables: &[Vec<Vec<u8>>; 6],
+) -> Vec<u8> {
+    match version {
+        1 => image_of(1, [supported, flags], address, &[0; 260], tables),
+        _ => image_of(version, [supported, flags | supported & CLASSIC], address, &[0; 2], tables),
+    }
 }
 
 /// No entries in any table.

@@ -1,0 +1,40 @@
+/*
+ * How a word of the tool ends, and what it says on the standard error.
+ */
+#ifndef MESSAGES_H
+#define MESSAGES_H
+
+#include <stdarg.h>
+#include <stdio.h>
+
+/* The exit codes: all is fine; something was found; the use was wrong, or a file. */
+enum { FINE = 0, FOUND = 1, WRONG = 2 };
+
+/* Says something behind the name of the program. */
+static inline void say_values(const char *format, va_list values)
+{
+    fputs("hub: ", stderr);
+    vfprintf(stderr, format, values);
+    fputc('\n', stderr);
+}
+
+/* Says what there is to know. */
+static inline void note(const char *format, ...)
+{
+    va_list values;
+    va_start(values, format);
+    say_values(format, values);
+    va_end(values);
+}
+
+/* Says what is wrong. */
+static inline int wrong(const char *format, ...)
+{
+    va_list values;
+    va_start(values, format);
+    say_values(format, values);
+    va_end(values);
+    return WRONG;
+}
+
+#endif
