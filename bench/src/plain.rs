@@ -45,6 +45,7 @@ fn kept_of(whole: usize) -> usize {
     }
 }
 
+#[inline(always)]
 pub fn zero(o: &[u8]) -> bool {
     o.iter().all(|&x| x == 0)
 }
@@ -158,6 +159,7 @@ fn table(t: usize, region: &[u8], bredr: bool, le: bool) -> bool {
 }
 
 /// An address of six octets with both top bits set and the 46 bits below them not all alike.
+#[inline(always)]
 pub fn static_random(a: &[u8]) -> bool {
     a[5] >= 0xC0 && a != [0, 0, 0, 0, 0, 0xC0] && a != [0xFF; 6]
 }
@@ -166,6 +168,7 @@ fn le_address(r: &[u8]) -> bool {
     r[6] == 1 || (r[6] == 2 && static_random(&r[..6]))
 }
 
+#[inline(always)]
 pub fn record(t: usize, r: &[u8]) -> bool {
     match t {
         0 => !zero(&r[..16]),
@@ -177,6 +180,7 @@ pub fn record(t: usize, r: &[u8]) -> bool {
     }
 }
 
+#[inline(always)]
 pub fn same(t: usize, r: &[u8], q: &[u8]) -> bool {
     match t {
         0 => r[..16] == q[..16],
