@@ -2,8 +2,9 @@
  * The hub: steers up to four Bluetooth controllers, index 0 to 3, by the BlueZ management commands.
  *
  * The caller lends every buffer: the state, the packet or image, the reply, text or room for an image. Each call returns one number that holds the answer
- * and the count of octets written to the last of these, of hub_why a status too, of hub_look_up a slot and the slots walked, and of hub_stream the octets
- * taken; take it apart with hub_answer, hub_count, hub_extra, hub_slot, hub_walked and hub_taken. The buffer behind the octets written is left alone.
+ * and the count of octets written to the last of these, of hub_why a status too, of hub_look_up a slot and the slots walked, of hub_stream the octets
+ * taken, and where an image is refused the offset of its fault; take it apart with hub_answer, hub_count, hub_extra, hub_slot, hub_walked, hub_taken and
+ * hub_offset. The buffer behind the octets written is left alone.
  *
  * What the caller owes:
  *   - each length is the true length of its buffer;
@@ -35,8 +36,8 @@
  * C0:00:00:00:00:00 and FF:FF:FF:FF:FF:FF are not static random addresses. Set Static Address takes one, or zero for none; in the lists of long term and
  * identity resolving keys an LE Random address has to be one. Any other is refused with Invalid Parameters there. The address of a device that is blocked,
  * added or unpaired need not be one. A host that draws a static address at random tests it first, or draws again when it is refused. An image with any
- * other address in these places is answered HUB_BAD_IMAGE and a state HUB_BAD_STATE, as those of an older library may be. Nothing in them is mended: keep
- * the file, and start from the empty image.
+ * other address in these places is refused, with HUB_IMAGE_FIELD or HUB_IMAGE_RECORD and where it stands, and a state with HUB_BAD_STATE, as those of an
+ * older library may be. Nothing in them is mended: keep the file, and start from the empty image.
  *
  * Set BR/EDR (0x002A) turns the BR/EDR of a controller that has both transports off and on; plug turns it on, and an image keeps it. Off is taken while
  * power is off, and turns discoverable off; on is taken with no static address; both want Low Energy on. With BR/EDR off or not supported, discoverable is
@@ -49,6 +50,14 @@
  * an older library, one that knows version 1 alone, refuses. hub_downgrade makes version 1 of an image of version 2, unless it has BR/EDR off at a controller
  * that supports it, and hub_upgrade makes version 2 of one of version 1. They work on images alone, without a state. Version 2 has no octets of a name
  * behind its first zero: hub_upgrade drops them, as hub_save does, and they come back as zeros. Nothing else is lost either way.
+ *
+ * An image that keeps every rule is taken; any other is refused by hub_load and the moves with one of seven numbers, HUB_IMAGE_LENGTH to HUB_IMAGE_REPEATED,
+ * and hub_offset says at which octet, counted from 0, the first thing at fault begins. First the head is looked at: five octets (else 71 at the end), then
+ * the version, then the length field, which says how long the file is; so a file that was merely cut, to five octets or more, is 71 at 0, since its length
+ * field still says the old length. Then all else in the order of the file: each field, count and record is first whole (else 71 at the end), then right; a
+ * name of version 2 is one field with its length octet. Of two fields that do not fit together the later one is at fault, and so is the later of two records
+ * that name one thing; a record that breaks a rule of its own is not told as repeated. What is told is the first fault and not all there is: more may be
+ * wrong behind it. docs/IMAGE.md has the layout of an image and an example of each number.
  *
  * Octets off a serial line go to hub_stream as they come, in lumps of any length; it finds the packets. What has come of the next packet waits in the
  * state, and no other call touches it or looks at it: hub_command, the radio, the clock and hub_save go on beside it. No image holds it, and after hub_load
@@ -97,9 +106,17 @@ extern "C" {
 #define HUB_SMALL_BUFFER 4u /* the reply buffer is shorter than HUB_REPLY_MIN (an image's: HUB_IMAGE_MAX; the text's of hub_why: HUB_TEXT_MIN) */
 #define HUB_BAD_STATE 5u    /* the lent state is not well formed */
 #define HUB_BAD_ARGUMENT 6u /* a wrong argument, of hub_plug, hub_unplug, hub_report, hub_clock, hub_name, hub_on_air or hub_look_up */
-#define HUB_BAD_IMAGE 7u    /* not an acceptable image: of version 1 or 2 for hub_load, of 1 for hub_upgrade, of 2 for hub_downgrade */
 #define HUB_NOT_IN_IMAGE 8u /* hub_downgrade: a controller that supports BR/EDR has it off, which version 1 cannot say */
 #define HUB_INCOMPLETE 9u   /* hub_stream: no packet is finished yet; all octets were taken, and only what waits has changed; nothing is written */
+
+/* What is wrong with an image, of hub_load, hub_upgrade and hub_downgrade; hub_offset says where that begins. */
+#define HUB_IMAGE_LENGTH 71u   /* its length field says another length (offset 0), it ends before a field or record is whole, or octets are left over */
+#define HUB_IMAGE_VERSION 72u  /* a version that is not taken: hub_load takes 1 and 2, hub_upgrade 1, hub_downgrade 2 */
+#define HUB_IMAGE_INDEX 73u    /* more than four controllers, an index above 3, or indexes that do not ascend */
+#define HUB_IMAGE_FIELD 74u    /* another field of a controller: its supported settings, flags, static address, name or short name */
+#define HUB_IMAGE_COUNT 75u    /* a table of more than 32 records */
+#define HUB_IMAGE_RECORD 76u   /* a record that breaks a rule of its own, or that its controller cannot have */
+#define HUB_IMAGE_REPEATED 77u /* a record that names what a record before it in its table names */
 
 /* The tables of a controller, as hub_look_up numbers them. */
 #define HUB_UUIDS 0u
@@ -125,7 +142,7 @@ static inline size_t hub_count(uint64_t result)
 
 /*
  * A second number: of hub_why the status that hub_command would answer with, 0 if the packet would be taken; of hub_look_up the slot + 256 x the slots
- * walked; of hub_stream the octets taken. Of all other calls it is 0.
+ * walked; of hub_stream the octets taken; of hub_load, hub_upgrade and hub_downgrade, with 71 to 77, the offset of the fault. Else it is 0.
  */
 static inline uint32_t hub_extra(uint64_t result)
 {
@@ -146,6 +163,18 @@ static inline unsigned hub_walked(uint64_t result)
 
 /* How many of the lent octets hub_stream took; with answers 4 and 5 none. */
 static inline size_t hub_taken(uint64_t result)
+{
+    return (size_t)hub_extra(result);
+}
+
+/* Whether an image was refused for what it is: one of the answers 71 to 77. */
+static inline int hub_bad_image(uint64_t result)
+{
+    return hub_answer(result) >= HUB_IMAGE_LENGTH && hub_answer(result) <= HUB_IMAGE_REPEATED;
+}
+
+/* With 71 to 77: where the first thing at fault begins, counted from 0; the length of the image where it ends too early. (Else 0, which says nothing.) */
+static inline size_t hub_offset(uint64_t result)
 {
     return (size_t)hub_extra(result);
 }
@@ -234,19 +263,20 @@ uint64_t hub_save(const uint8_t *state, size_t state_len, uint8_t *reply, size_t
 /*
  * Makes the state that an image of version 1 or 2 describes; the six octets 00 00 00 06 02 00 make a fresh one, and so do 00 00 00 06 01 00. What the state
  * buffer held does not matter; it is written only if the whole image is acceptable. Nothing waits of a packet off the serial line then: the next octets lent
- * to hub_stream begin one. Answers 0, 5 for a state buffer of another length, or 7.
+ * to hub_stream begin one. Answers 0, 5 for a state buffer of another length, or 71 to 77 with the offset of the fault.
  */
 uint64_t hub_load(uint8_t *state, size_t state_len, const uint8_t *image, size_t image_len);
 
 /*
  * Makes version 2 of an image of version 1, in the out buffer: what hub_save writes once the image is loaded. Octets of a name behind its first zero are
- * dropped. Answers 0, 4 for an out buffer under HUB_IMAGE_MAX, or 7 for what is no acceptable image of version 1.
+ * dropped. Answers 0, 4 for an out buffer under HUB_IMAGE_MAX, or 71 to 77 with the offset of the fault for what is no acceptable image of version 1.
  */
 uint64_t hub_upgrade(const uint8_t *image, size_t image_len, uint8_t *out, size_t out_len);
 
 /*
  * Makes version 1 of an image of version 2, in the out buffer; zeros fill each name up. hub_upgrade makes the same image of version 2 of it again. Answers 0,
- * 4 for an out buffer under HUB_IMAGE_MAX, 7 for what is no acceptable image of version 2, or 8 if the image has BR/EDR off at a controller that supports it.
+ * 4 for an out buffer under HUB_IMAGE_MAX, 71 to 77 with the offset of the fault for what is no acceptable image of version 2, or 8 if the image has BR/EDR
+ * off at a controller that supports it.
  */
 uint64_t hub_downgrade(const uint8_t *image, size_t image_len, uint8_t *out, size_t out_len);
 

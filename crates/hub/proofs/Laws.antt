@@ -10,6 +10,7 @@ use lib.Dec.{eqb, leb, leb→le}
 use borrow.Author.Tests.{le-leb, lt-leb}
 use Rattle.model.specs.Octets.{Octets, u16}
 use Rattle.model.specs.Hub.{packetOk}
+use Rattle.model.specs.Proof.Load.{fault-number}
 use Rattle.model.specs.Proof.Tests.{and-true}
 use Rattle.model.specs.Answers.{numberOf}
 use Rattle.model.specs.declared.Answer.{Answer}
@@ -25,8 +26,8 @@ pub framed-not : (p : Octets) → length p < 6 → false ≡ packetOk p
 unfolding packetOk
 framed-not p h = rw (lt-leb 6 (length p) h)
 
--- an answer's number is one of ten
-pub number-small : (a : Answer) → numberOf a ≤ 9
+-- an answer's number is at most 77
+pub number-small : (a : Answer) → numberOf a ≤ 77
 number-small (Done n) = omega arith
 number-small Started = omega arith
 number-small (Refused n) = omega arith
@@ -34,7 +35,7 @@ number-small BadPacket = omega arith
 number-small SmallBuffer = omega arith
 number-small BadState = omega arith
 number-small BadArgument = omega arith
-number-small BadImage = omega arith
+number-small (BadImage k at) = fault-number k .1
 number-small NotInImage = omega arith
 number-small Incomplete = omega arith
 

@@ -3,11 +3,11 @@
 use Prim.Native.Nat.{ℕ, _+_, _*_, _^_, _≤_, _<_}
 use native.Mathlib.Omega.{arith}
 use mathlib.Core.Path.{_≡_, refl, sym, ap, subst, _∙_}
-use mathlib.Core.Bool.{Bool, true, false, _||_}
+use mathlib.Core.Bool.{true}
 use mathlib.Core.List.{List, [], _∷_, _++_, map}
 use lib.ListN.{length, drop, take, replicate, length-replicate}
 use lib.Seq.{take-append-seam}
-use lib.Dec.{eqb, leb, ltb}
+use lib.Dec.{ltb}
 use borrow.Author.Tests.{leb-true, lt-ltb, ltb-true}
 use Rattle.model.specs.Octets.{Octets, bytes}
 use Rattle.model.specs.Lengths as Lengths
@@ -19,16 +19,16 @@ use Rattle.model.specs.Stream.{HostCall, Streamed, direct, stream}
 use Rattle.model.specs.WellFormed.{callWide, hostCallWide, hostCallsWide}
 use Rattle.model.specs.Meanings.{hubClock, hubCommand, hubLoad, hubPlug, hubReport, hubSave, hubStream, hubUnplug, badState, laidOut, meaning}
 use Rattle.model.specs.Meanings.{stateOk, streamMeaning}
-use Rattle.model.specs.Written.{loadAnswer}
 use Rattle.model.specs.Demand3.{HostEntry, entry, hostAfter, hostNext, hostTrace, lump, made}
 use Rattle.model.specs.Cutting.{LumpTold, comingIn, finishesPacket, notWell, takesAll, tooSmall}
-use Rattle.model.specs.Theorems.{answers-are-seven, count-fits, demand-3, load-writes-nothing, lump-is-told, no-lump-reply-longer}
-use Rattle.model.specs.Proof.Tests.{and-true, both, either, equal, no-way}
+use Rattle.model.specs.Theorems.{answers-are-seven, count-fits, demand-3, lump-is-told, no-lump-reply-longer}
+use Rattle.model.specs.Proof.Tests.{and-true, both, either}
 use Rattle.model.specs.Proof.Demand3.{state-back}
 use Rattle.hub.specs.Entries.{Returns, ReturnsTaken}
 use Rattle.hub.specs.Runs.{asks, CountsTrue, Demand3OfRuns, EveryListRuns, Run, Seen, Step, answerIn, countIn, ends, entryBy, entryOf, looks, names}
 use Rattle.hub.specs.Runs.{octetsIn, onAir, step, takenIn}
 use Rattle.hub.specs.Runs as Runs
+use Rattle.hub.proofs.Images.{load-seen, read-back-third}
 
 -- 1. What a number says -------------------------------------------------------------------------------------------------------------------------
 
@@ -45,11 +45,6 @@ seen-is s c r before reply left k =
     let b = read-back r (meaning s c .answer) (length (meaning s c .octets)) (k .number) (omega (arith, answers-are-seven s c)) (count-fits s c) in
     (b .0, b .1, rw (b .1, k .reply) (take-append-seam (meaning s c .octets) (drop (length (meaning s c .octets)) before)))
 
--- an answer of 0 to 9, a count of 24 bits and the octets taken are read back too
-read-back-taken : (r a n t : ℕ) → r ≡ a + 256 * n + 2 ^ 32 * t → a ≤ 9 → n < 2 ^ 24 → (answerIn r ≡ a) × (countIn r ≡ n) × (takenIn r ≡ t)
-unfolding answerIn countIn takenIn
-read-back-taken r a n t e k l = rw e (omega arith, omega arith, omega arith)
-
 -- a lump is answered 9 at most
 lump-answer : (s o : Octets) (room : ℕ) → bytes o ≡ true → hubStream s o room .result .answer ≤ 9
 lump-answer s o room w = by (hubStream s o room) (lump-is-told s o room w)
@@ -65,10 +60,10 @@ lump-answer s o room w = by (hubStream s o room) (lump-is-told s o room w)
 lump-seen : (s o : Octets) (r : ℕ) (before reply left : Octets) → bytes o ≡ true → ReturnsTaken (hubStream s o (length before)) r before reply left
     → (answerIn r ≡ hubStream s o (length before) .result .answer) × (countIn r ≡ length (hubStream s o (length before) .result .octets))
     × (takenIn r ≡ hubStream s o (length before) .taken) × (octetsIn r reply ≡ hubStream s o (length before) .result .octets)
-unfolding octetsIn
+unfolding octetsIn takenIn
 lump-seen s o r before reply left w k =
     let m = hubStream s o (length before) in
-    let b = read-back-taken r (m .result .answer) (length (m .result .octets)) (m .taken) (k .number) (lump-answer s o (length before) w)
+    let b = read-back-third r (m .result .answer) (length (m .result .octets)) (m .taken) (k .number) (omega (arith, lump-answer s o (length before) w))
     (omega (arith, no-lump-reply-longer s o (length before) w)) in
     (b .0, b .1, b .2, rw (b .1, k .reply) (take-append-seam (m .result .octets) (drop (length (m .result .octets)) before)))
 
@@ -156,22 +151,11 @@ run-of s end (x ∷ xs) (step {next = n} k more) = run-more s n end x xs (step-o
 
 -- 4. Demand 3 -----------------------------------------------------------------------------------------------------------------------------------
 
--- a load whose number has answer 0 returned 0
-taken-by : (n r : ℕ) → r ≡ n → loadAnswer n ≡ true → answerIn r ≡ 0 → n ≡ 0
-unfolding answerIn loadAnswer
-taken-by n r e k z = go (eqb n 0) (eqb n 5) (eqb n 7) refl refl refl k
-  where
-    go : (a b c : Bool) → eqb n 0 ≡ a → eqb n 5 ≡ b → eqb n 7 ≡ c → a || (b || c) ≡ true → n ≡ 0
-    go true b c p q x k = equal n 0 p
-    go false true c p q x k = let m = equal n 5 q in absurd (omega arith)
-    go false false true p q x k = let m = equal n 7 x in absurd (omega arith)
-    go false false false p q x k = no-way (sym k)
-
 -- DEMAND 3 OF EVERY RUN of the exported functions from a state that hub_load made
 pub demand-3-of-runs : Demand3OfRuns
 demand-3-of-runs buffer image s end r xs b l z run =
     let k = run-of s end xs run in
-    let a : hubLoad buffer image .answer ≡ 0 = taken-by (hubLoad buffer image .answer) r (l .number) (load-writes-nothing buffer image .0) z in
+    let a : hubLoad buffer image .answer ≡ 0 = sym (load-seen buffer image r s l .0) ∙ z in
     let d = demand-3 buffer image (callsOf xs) b (k .wide) a in
     (k .counts, rw (k .seen, k .state, l .state) d)
 

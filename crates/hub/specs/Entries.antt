@@ -7,6 +7,7 @@ use Rattle.model.specs.Octets.{Octets}
 use Rattle.model.specs.Hub.{Result}
 use Rattle.model.specs.Stream.{Streamed}
 use Rattle.model.specs.Moves.{Moved}
+use Rattle.model.specs.Meanings.{Loaded}
 use Rattle.model.specs.Answers.{numberOf, countOf}
 use Rattle.model.specs.declared.Answer.{Answer}
 use Rattle.model.specs.declared.LookUpReply.{LookUpReply}
@@ -37,10 +38,15 @@ pub record ReturnsTaken (o : Streamed Octets) (r : ℕ) (before after left : Oct
   pub reply : after ≡ o .result .octets ++ drop (length (o .result .octets)) before
   pub state : left ≡ o .result .state
 
--- The number returned is that of the move m with the count of its octets; the output `before` has become `after`, with these octets at its front and the
--- rest untouched (02, E7). No state is lent.
+-- The number returned is that of the load l with, in its upper half, the offset of a fault (02, E8); nothing is written but the state, which is `left`.
+pub record ReturnsLoaded (l : Loaded) (r : ℕ) (left : Octets) : Type 0 where
+  pub number : r ≡ l .answer + 2 ^ 32 * l .offset
+  pub state : left ≡ l .state
+
+-- The number returned is that of the move m with the count of its octets and, in its upper half, the offset of a fault (02, E8); the output `before` has
+-- become `after`, with these octets at its front and the rest untouched (02, E7). No state is lent.
 pub record ReturnsMoved (m : Moved) (r : ℕ) (before after : Octets) : Type 0 where
-  pub number : r ≡ m .answer + 256 * length (m .octets)
+  pub number : r ≡ m .answer + 256 * length (m .octets) + 2 ^ 32 * m .offset
   pub output : after ≡ m .octets ++ drop (length (m .octets)) before
 
 -- The number returned is that of the answer with the count of its octets and, in its upper half, the status; the text buffer `before` has become `after`, with

@@ -16,7 +16,7 @@ use Rattle.model.specs.Meanings.{hubClock, hubCommand, hubLoad, hubLookUp, hubN
 use Rattle.model.specs.Meanings.{plainMeaning, streamMeaning}
 use Rattle.model.specs.Demand3.{Agrees, HostEntry, assembled, entry, hostAfter, lump, made, noPending, reduce}
 use Rattle.why.specs.Meaning.{hubWhy}
-use Rattle.hub.specs.Entries.{Explains, Returns, ReturnsTaken, lookUpNumber}
+use Rattle.hub.specs.Entries.{Explains, Returns, ReturnsLoaded, ReturnsTaken, lookUpNumber}
 
 -- What a host reads ---------------------------------------------------------------------------------------------------------------------------
 
@@ -39,6 +39,10 @@ walkedIn r = r / 2 ^ 40
 -- of hub_stream the octets taken: the upper half
 unfoldable pub takenIn : ℕ → ℕ
 takenIn r = r / 2 ^ 32
+
+-- of hub_load, hub_upgrade and hub_downgrade the offset of a fault: the upper half
+unfoldable pub offsetIn : ℕ → ℕ
+offsetIn r = r / 2 ^ 32
 
 -- the octets written: so many from the start of the reply buffer
 unfoldable pub octetsIn : ℕ → Octets → Octets
@@ -107,11 +111,6 @@ pub data Run : Octets → List Seen → Octets → Type 0 where
 
 -- Demand 3 of every run -------------------------------------------------------------------------------------------------------------------------
 
--- hub_load returned r and left the state s, as its contract says
-pub record Loads (buffer image : Octets) (r : ℕ) (s : Octets) : Type 0 where
-  pub number : r ≡ hubLoad buffer image .answer
-  pub state : s ≡ hubLoad buffer image .state
-
 -- every count seen is the number of octets written
 unfoldable pub CountsTrue : List Seen → Type 0
 CountsTrue [] = Unit
@@ -120,8 +119,8 @@ CountsTrue (x ∷ xs) = (countIn (x .returned) ≡ length (octetsIn (x .returned
 -- For any state that hub_load made and any run from it: every count is the number of octets written; and the at-once hub, given what is left of the calls
 -- by the numbers and buffers seen, answers and writes the same, and ends in the same state once open commands and waiting octets are cleared.
 abbrev pub Demand3OfRuns : Type 0
-Demand3OfRuns = (buffer image s end : Octets) (r : ℕ) (xs : List Seen) → bytes image ≡ true → Loads buffer image r s → answerIn r ≡ 0 → Run s xs end
-    → CountsTrue xs × Agrees plainMeaning s (reduce noPending (assembled [] (map entryOf xs))) (cleared end)
+Demand3OfRuns = (buffer image s end : Octets) (r : ℕ) (xs : List Seen) → bytes image ≡ true → ReturnsLoaded (hubLoad buffer image) r s → answerIn r ≡ 0
+    → Run s xs end → CountsTrue xs × Agrees plainMeaning s (reduce noPending (assembled [] (map entryOf xs))) (cleared end)
 
 -- Runs are there: any calls and lumps with arguments as wide as their types can be made one after the other, on any octets as state.
 abbrev pub EveryListRuns : Type 0

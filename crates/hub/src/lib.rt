@@ -2,21 +2,21 @@
 // tells a name, one what is on air, one why a packet would be refused, and one where a record stands; and two that move an image from one version to the
 // other.
 ghost use mathlib.Core.Path.{_≡_};
-ghost use Prim.Native.Nat.{_+_, _≤_};
+ghost use Prim.Native.Nat.{_+_, _*_, _^_, _≤_, _<_};
 ghost use mathlib.Core.List.{_++_};
 ghost use lib.ListN.{length};
 ghost use Rattle.model.specs.Lengths as Lengths;
 ghost use Rattle.model.specs.Hub as Hub;
 ghost use Rattle.model.specs.Meanings.{stateOk, meaning, hubCommand, hubReport, hubClock, hubPlug, hubUnplug, hubSave, hubLoad, hubLookUp, hubName, hubOnAir, hubStream};
 ghost use Rattle.model.specs.Moves.{hubDowngrade, hubUpgrade};
-ghost use Rattle.model.specs.Answers.{countOf};
+ghost use Rattle.model.specs.Answers.{countOf, offsetOf};
 ghost use Rattle.replies.specs.Answers.{Gives};
 ghost use mathlib.Core.Bool.{true};
 ghost use Rattle.model.specs.Layout.{decode, lineCleared};
 ghost use Rattle.model.specs.Stream.{grown, lengthSaid, packetIn};
 ghost use Rattle.why.specs.Findings.{why};
 ghost use Rattle.why.specs.Meaning.{hubWhy, textBuffer, told};
-ghost use Rattle.hub.specs.Entries.{packed, lookUpNumber, Explains, Returns, ReturnsMoved, ReturnsTaken, Takes};
+ghost use Rattle.hub.specs.Entries.{packed, lookUpNumber, Explains, Returns, ReturnsLoaded, ReturnsMoved, ReturnsTaken, Takes};
 use model::Answer;
 use model::LookUpReply;
 use model::lengths;
@@ -45,6 +45,15 @@ fn pack(a: Answer) -> u64
 {
     let n = replies::count(a) as u64;
     replies::number(a) + 256 * n
+}
+
+// The same with the offset of a fault in the upper half.
+fn pack_offset(a: Answer) -> u64
+    requires { ⌜ (countOf a ≤ Lengths.largestImage) × (offsetOf a < 2 ^ 32) ⌝ }
+    ensures { λ r. ⌜ r ≡ packed a + 2 ^ 32 * offsetOf a ⌝ }
+{
+    let at = replies::offset(a) as u64;
+    pack(a) + 0x100000000 * at
 }
 
 // A whole packet, on a well-formed state and with room for a reply: the function that serves its code.
@@ -414,12 +423,10 @@ pub extern "C" fn hub_save(state: &[u8], reply: &mut [u8]) -> u64
 // C's call of a load: nothing is written but the state.
 #[no_mangle]
 pub extern "C" fn hub_load(state: &mut [u8], image: &[u8]) -> u64
-    ensures { λ r. ⌜
-        (r ≡ hubLoad (now (state .entry)) (now (image .entry)) .answer) × (now (state .exit) ≡ hubLoad (now (state .entry)) (now (image .entry)) .state)
-        ⌝ }
+    ensures { λ r. ⌜ ReturnsLoaded (hubLoad (now (state .entry)) (now (image .entry))) r (now (state .exit)) ⌝ }
 {
     let a = restore::load(state, image);
-    replies::number(a)
+    pack_offset(a)
 }
 
 // C's move of an image to version 2: no state is lent.
@@ -428,7 +435,7 @@ pub extern "C" fn hub_upgrade(image: &[u8], out: &mut [u8]) -> u64
     ensures { λ r. ⌜ ReturnsMoved (hubUpgrade (now (image .entry)) (length (now (out .entry)))) r (now (out .entry)) (now (out .exit)) ⌝ }
 {
     let a = moves::upgrade(image, out);
-    pack(a)
+    pack_offset(a)
 }
 
 // C's move of an image back to version 1.
@@ -437,7 +444,7 @@ pub extern "C" fn hub_downgrade(image: &[u8], out: &mut [u8]) -> u64
     ensures { λ r. ⌜ ReturnsMoved (hubDowngrade (now (image .entry)) (length (now (out .entry)))) r (now (out .entry)) (now (out .exit)) ⌝ }
 {
     let a = moves::downgrade(image, out);
-    pack(a)
+    pack_offset(a)
 }
 
 // C's question for a name: the state is only read.

@@ -93,16 +93,17 @@ imageExamples =
     ∷ gives (loads two ∷ loads (one 0) ∷ loads (one 7) ∷ loads (0 ∷ 0 ∷ 0 ∷ 6 ∷ 1 ∷ 0 ∷ []) ∷ loads (0 ∷ 0 ∷ 0 ∷ 6 ∷ 2 ∷ 0 ∷ []) ∷ []) (1 ∷ 1 ∷ 1 ∷ 1 ∷ 1 ∷ [])
     ∷ gives (loads (0 ∷ 0 ∷ 0 ∷ 6 ∷ 3 ∷ 0 ∷ []) ∷ loads (0 ∷ 0 ∷ 0 ∷ 6 ∷ 0 ∷ 0 ∷ []) ∷ loads [] ∷ []) (0 ∷ 0 ∷ 0 ∷ [])
     -- each move takes its own version, and wants room for the largest image, before all else
-    ∷ gives (forth two ∷ back (one 0) ∷ []) (7 ∷ 7 ∷ [])
-    ∷ gives (hubDowngrade two 16013 .answer ∷ hubUpgrade two 16013 .answer ∷ hubUpgrade [] 16013 .answer ∷ hubUpgrade [] 16014 .answer ∷ []) (4 ∷ 4 ∷ 4 ∷ 7 ∷ [])
+    ∷ gives (forth two ∷ back (one 0) ∷ []) (72 ∷ 72 ∷ [])
+    ∷ gives (hubDowngrade two 16013 .answer ∷ hubUpgrade two 16013 .answer ∷ []) (4 ∷ 4 ∷ [])
+    ∷ gives (hubUpgrade [] 16013 .answer ∷ hubUpgrade [] 16014 .answer ∷ []) (4 ∷ 71 ∷ [])
     -- names of version 2: at most 248 and 10 octets, none of them zero, all of them there
     ∷ gives (back (imageWith 2 (part dual bothOn (248 ∷ (replicate 248 0x61 ++ (10 ∷ replicate 10 0x62))))) ∷ []) (0 ∷ [])
-    ∷ gives (back (imageWith 2 (part dual bothOn (249 ∷ (replicate 249 0x61 ++ (0 ∷ []))))) ∷ []) (7 ∷ [])
-    ∷ gives (back (imageWith 2 (part dual bothOn (0 ∷ 11 ∷ replicate 11 0x62))) ∷ []) (7 ∷ [])
-    ∷ gives (back (imageWith 2 (part dual bothOn (2 ∷ 0x68 ∷ 0 ∷ 0 ∷ []))) ∷ back (imageWith 2 (part dual bothOn (255 ∷ []))) ∷ []) (7 ∷ 7 ∷ [])
+    ∷ gives (back (imageWith 2 (part dual bothOn (249 ∷ (replicate 249 0x61 ++ (0 ∷ []))))) ∷ []) (74 ∷ [])
+    ∷ gives (back (imageWith 2 (part dual bothOn (0 ∷ 11 ∷ replicate 11 0x62))) ∷ []) (74 ∷ [])
+    ∷ gives (back (imageWith 2 (part dual bothOn (2 ∷ 0x68 ∷ 0 ∷ 0 ∷ []))) ∷ back (imageWith 2 (part dual bothOn (255 ∷ []))) ∷ []) (74 ∷ 71 ∷ [])
     -- flag bit 7: only where it is supported, off only with bit 9 on; version 1 has none
-    ∷ gives (back (imageWith 2 (part leOnly bothOn hi)) ∷ back (imageWith 2 (part dual (replicate 4 0) hi)) ∷ []) (7 ∷ 7 ∷ [])
-    ∷ gives (forth (imageWith 1 (part dual bothOn (hiOne 0))) ∷ []) (7 ∷ [])
+    ∷ gives (back (imageWith 2 (part leOnly bothOn hi)) ∷ back (imageWith 2 (part dual (replicate 4 0) hi)) ∷ []) (74 ∷ 74 ∷ [])
+    ∷ gives (forth (imageWith 1 (part dual bothOn (hiOne 0))) ∷ []) (74 ∷ [])
     ∷ []
 
 -- E7'S EXAMPLES HOLD

@@ -20,6 +20,7 @@ pub mod WellFormed
 pub mod Layout
 pub mod Meanings
 pub mod Moves
+pub mod FirstFault
 pub mod Written
 pub mod Demand3
 pub mod Cutting
@@ -33,5 +34,7 @@ pub mod WalkedSlots
 pub mod LowEnergyAlone
 pub mod SerialLine
 pub mod ImageExamples
+pub mod FaultExamples
 pub mod Proof
 pub mod Theorems
+pub mod FaultTheorems

@@ -17,6 +17,9 @@ pub mod Fields
 pub mod Numbers
 pub mod Fixed
 pub mod Load
+pub mod Diagnosis
+pub mod Things
+pub mod FileOrder
 pub mod RoundTrip
 pub mod SavedAgain
 pub mod Moves

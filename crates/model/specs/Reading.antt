@@ -1,7 +1,7 @@
 -- One reading of an image, in either version. It goes through the octets by the counts and lengths as they are written, keeps what keeps the rules, and notes
--- each thing that it drops, with its first fault. Load and the moves take an image of which nothing is dropped, and answer 7 for any other (01, The image;
--- 02, E7).
-use Prim.Native.Nat.{ℕ, zero, suc, _-_}
+-- each thing that it drops, with its first fault. Load and the moves take an image of which nothing is dropped (01, The image; 02, E7); for any other they tell
+-- the fault of the first thing dropped, and where that begins (02, E8).
+use Prim.Native.Nat.{ℕ, zero, suc, _-_, _≤_}
 use mathlib.Core.Bool.{Bool, true, false, _&&_}
 use mathlib.Core.List.{List, [], _∷_, _++_, map}
 use mathlib.Core.Option.{Option, none, some}
@@ -10,6 +10,7 @@ use lib.Dec.{eqb, leb}
 pub use Rattle.model.specs.declared.ImageFault.{ImageFault}
 pub use Rattle.model.specs.declared.ImageFault.the-variants.{BadLength, BadVersion, BadIndex, BadField, BadCount, BadRecord, Repeated}
 use Rattle.model.specs.Octets.{Octets, octet, bit, same, number}
+use Rattle.model.specs.Answers.{faultNumber}
 use Rattle.model.specs.Advertising.{noAdvertising}
 use Rattle.model.specs.State.{Hardware, RadioSettings, Controller, PlainHub, Table, hardwareOk, noTimer}
 use Rattle.model.specs.Reasons.{passes}
@@ -291,9 +292,30 @@ stateIn (faulty k at) = none
 unfoldable pub load : Octets → Option PlainHub
 load o = stateIn (judge eitherVersion o)
 
+-- What is wrong with an image (02, E8) -----------------------------------------------------------------------------------------------------------------
+
+-- a fault by its number, and the offset at which the first thing at fault begins
+pub record Diagnosis : Type 0 where
+  pub number : ℕ
+  pub offset : ℕ
+
+-- the fault that was found, if one was
+unfoldable pub faultIn : Judged → Option Diagnosis
+faultIn (acceptable p) = none
+faultIn (faulty k at) = some (record { number = faultNumber k; offset = at })
+
+-- what is wrong with an image that is to have a version that is taken, if anything is
+unfoldable pub diagnose : (takes : ℕ → Option Version) → Octets → Option Diagnosis
+diagnose takes o = faultIn (judge takes o)
+
+-- no fault begins before an offset
+unfoldable pub NoneBefore : ℕ → Judged → Type 0
+NoneBefore at (acceptable p) = Unit {0}
+NoneBefore at (faulty k x) = at ≤ x
+
 -- Named on an `unfolding` line, this opens every definition of the module: for examples that are computed.
 unfoldable pub open-reading : Unit {0}
 unfolding faultAt notWhole itemAt spoilt goOn _>>=_ give field free nameField hardwareBy fixedBy indexRight flagsRight fixedPart nothingDropped also recordFault
     walkRecords walkTable before tableThen walkTables controllerBy keptThen controllerThen walkControllers walk lastItem items hubOf judgeItems judgeAs judge
-    eitherVersion only stateIn load
+    eitherVersion only stateIn load faultIn diagnose NoneBefore
 open-reading = tt

@@ -112,9 +112,9 @@ everyPlace n =
 unfoldable pub takenThere : List ℕ
 takenThere = 0 ∷ 0 ∷ 0 ∷ 0 ∷ 1 ∷ 0 ∷ 1 ∷ 0 ∷ 1 ∷ []
 
--- refused in every place, an image with 7
+-- refused in every place, an image with 74 for the static address and with 76 for a key
 unfoldable pub refusedThere : List ℕ
-refusedThere = 2 ∷ 2 ∷ 2 ∷ 7 ∷ 0 ∷ 7 ∷ 0 ∷ 7 ∷ 0 ∷ []
+refusedThere = 2 ∷ 2 ∷ 2 ∷ 74 ∷ 0 ∷ 76 ∷ 0 ∷ 76 ∷ 0 ∷ []
 
 -- the examples
 unfoldable pub staticAddresses : List Example

@@ -17,16 +17,16 @@ use Rattle.model.specs.Tables.{entries, holds, longTermKeys, open-tables
 use Rattle.model.specs.LookUp.{keyLength, lookUp}
 use Rattle.model.specs.Commands.{Row, commandCodes, rows}
 use Rattle.model.specs.Image.{One, Two, hasImage, image, imageOf, nameBack, namesClean, open-image, reloadedHub, taillessHub, versionOctet}
-use Rattle.model.specs.Reading.{acceptable, eitherVersion, judge, load}
+use Rattle.model.specs.Reading.{acceptable, eitherVersion, judge, load, only}
 use Rattle.model.specs.Hub.{Call, Outcome, Result, answerOf, call, callPlain, clock, command, keep, octetsOf, plug, report, save}
 use Rattle.model.specs.Hub.{saveOut, stateOf, unplug, within}
 use Rattle.model.specs.WellFormed.{callWide, open-wellformed, plainOk, wellFormed}
 use Rattle.model.specs.Layout.{decode, encode, lineCleared}
 use Rattle.model.specs.Meanings.{badState, hubCommand, hubLoad, hubLookUp, hubName, hubOnAir, hubSave, hubStream, laidOut, loadMeaning}
-use Rattle.model.specs.Meanings.{loadedInto, toldLookUp}
+use Rattle.model.specs.Meanings.{Loaded, leaves, loadedInto, toldLookUp}
 use Rattle.model.specs.Meanings.{meaning, stateOk}
 use Rattle.model.specs.Moves.{Moved, hubDowngrade, hubUpgrade, writes}
-use Rattle.model.specs.Written.{LookUpAnswer, MoveAnswer, ReadAnswer, OneReply, Written, loadAnswer, roomOf}
+use Rattle.model.specs.Written.{LoadAnswer, LookUpAnswer, MoveAnswer, ReadAnswer, OneReply, Written, roomOf}
 use Rattle.model.specs.Demand3.{Demand3}
 use Rattle.model.specs.Cutting.{CuttingDoesNotMatter, LeftAside, LineMayBeCut, LumpTold}
 use Rattle.model.specs.Fairness.{Fairness, InTime}
@@ -38,6 +38,7 @@ use Rattle.model.specs.Proof.InTime.{fairness, in-time}
 use Rattle.model.specs.Proof.Keeps.{keeps-state, load-refused-same, load-state, refused-same, state-exact}
 use Rattle.model.specs.Proof.Line.{cutting, demand3}
 use Rattle.model.specs.Proof.Load.{Accepted, accepts, either-takes, load-ok, loaded-by, loads-by}
+use Rattle.model.specs.Proof.Diagnosis.{inside}
 use Rattle.model.specs.Proof.Long.{long-call}
 use Rattle.model.specs.Proof.LookUp.{first-matches, first-of-none, keyed, keyed-by-master, look-up-answered, looked-back, none-before-first}
 use Rattle.model.specs.Proof.LookUp.{walk-ends, walked-all, walked-found}
@@ -45,12 +46,13 @@ use Rattle.model.specs.Proof.Names.{name-answered, name-most, name-no-ze
 use Rattle.model.specs.Proof.OnAir.{on-air-answered, on-air-most, on-air-same}
 use Rattle.model.specs.Proof.OneLump.{left-aside, lump-keeps, lump-refused, lump-room, lump-told}
 use Rattle.model.specs.Proof.Room.{notSave, room-state}
-use Rattle.model.specs.Proof.Moves.{accepted-answer, back-loads, back-there, clean-exactly, forth-loads, in-version, move-most, moves-told, refused-answer, said-two, there-back, upgraded, was-moved}
+use Rattle.model.specs.Proof.Moves.{accepted-answer, back-loads, back-there, clean-exactly, forth-loads, in-version, move-most, moves-told}
+use Rattle.model.specs.Proof.Moves.{other-answer, refused-answer, said-two, there-back, upgraded, was-moved}
 use Rattle.model.specs.Proof.Tails.{name-through}
 use Rattle.model.specs.Proof.RoundTrip.{image-most, saved-accepted}
 use Rattle.model.specs.Proof.SavedAgain.{written-again}
 use Rattle.model.specs.Proof.Tests.{and-true, either}
-use Rattle.model.specs.Proof.Written.{load-written, one-reply, silent, state-written, to-six}
+use Rattle.model.specs.Proof.Written.{load-answered, one-reply, silent, state-written, to-six}
 
 -- DEMAND 3, whole: for any image that load takes into any buffer and any list of calls and lumps
 pub demand-3 : Demand3
@@ -82,7 +84,7 @@ load-makes = load-state
 pub refused-changes-nothing : (s : Octets) (c : Call) → leb 2 (meaning s c .answer) ≡ true → meaning s c .state ≡ s
 refused-changes-nothing = refused-same
 
--- A load answered 5 or 7 changes nothing.
+-- A load answered 5 or 71 to 77 changes nothing.
 pub refused-load-changes-nothing : (buffer image : Octets) → leb 2 (hubLoad buffer image .answer) ≡ true → hubLoad buffer image .state ≡ buffer
 refused-load-changes-nothing = load-refused-same
 
@@ -122,10 +124,10 @@ accepted-image-saved-again buffer o room b v e r =
     save-loaded buffer o (t .hub) room (load-ok o (t .hub) b (t .loads)) (t .state) r
     ∙ rw (written-again Two o (t .hub) b (in-version (a .0) Two o (t .hub) v (a .1)))
 
--- load of an acceptable image
-load-is : (buffer o : Octets) (p : PlainHub) → eqb (length buffer) Lengths.state ≡ true → judge eitherVersion o ≡ acceptable p
-    → hubLoad buffer o ≡ record { answer = 0; octets = []; state = encode (idle p) }
-unfolding hubLoad loadMeaning loadedInto
+-- Load of an acceptable image, into a buffer of the right length, is answered 0, and makes the state that the image gives.
+pub load-is : (buffer o : Octets) (p : PlainHub) → eqb (length buffer) Lengths.state ≡ true → judge eitherVersion o ≡ acceptable p
+    → hubLoad buffer o ≡ record { answer = 0; offset = 0; state = encode (idle p) }
+unfolding hubLoad loadMeaning leaves loadedInto
 load-is buffer o p n l = rw (n, loadMeaning, l)
 
 -- what is known where a save is answered 0: a state that is well formed, and the room
@@ -145,7 +147,7 @@ saved s room =
 -- A saved image loads to the state that `reloadedHub` says: power and discoverable off, no timer, clock 0, nothing open and nothing waiting, the records in
 -- the lowest slots, no advertising, zeros behind the used part of each name.
 pub saved-image-loads : (s buffer : Octets) (room : ℕ) → hubSave s room .answer ≡ 0 → eqb (length buffer) Lengths.state ≡ true
-    → hubLoad buffer (hubSave s room .octets) ≡ record { answer = 0; octets = []; state = encode (idle (reloadedHub Two (decode s .plain))) }
+    → hubLoad buffer (hubSave s room .octets) ≡ record { answer = 0; offset = 0; state = encode (idle (reloadedHub Two (decode s .plain))) }
 unfolding wellFormed image
 saved-image-loads s buffer room a n =
     let t = saved s room a in
@@ -198,7 +200,7 @@ loaded-one o p l v = let a = loaded-by o p l in in-version (a .0) One o p v (a .
 -- The move to version 2 of an image that load takes is save after load.
 pub upgrade-is-load-and-save : (buffer o : Octets) (room : ℕ) → bytes o ≡ true → hubLoad buffer o .answer ≡ 0 → octet o 4 ≡ 1
     → ltb room Lengths.largestImage ≡ false
-    → hubUpgrade o room ≡ record { answer = 0; octets = hubSave (hubLoad buffer o .state) room .octets }
+    → hubUpgrade o room ≡ record { answer = 0; offset = 0; octets = hubSave (hubLoad buffer o .state) room .octets }
 upgrade-is-load-and-save buffer o room b e v r =
     let t = taken buffer o e in
     let s = save-loaded buffer o (t .hub) room (load-ok o (t .hub) b (t .loads)) (t .state) r in
@@ -208,7 +210,7 @@ upgrade-is-load-and-save buffer o room b e v r =
 -- part of each name, and all else the same; and that is the same image exactly if every name of p has only zeros there.
 pub upgrade-and-back : (o : Octets) (room : ℕ) → bytes o ≡ true → hubUpgrade o room .answer ≡ 0
     → (p : PlainHub) × (load o ≡ some p) × (o ≡ imageOf One p)
-    × (hubDowngrade (hubUpgrade o room .octets) room ≡ record { answer = 0; octets = imageOf One (taillessHub p) })
+    × (hubDowngrade (hubUpgrade o room .octets) room ≡ record { answer = 0; offset = 0; octets = imageOf One (taillessHub p) })
     × ((imageOf One (taillessHub p) ≡ o) ↔ (namesClean (p .controllers) ≡ true))
 unfolding hubUpgrade
 upgrade-and-back o room b e =
@@ -222,7 +224,7 @@ upgrade-and-back o room b e =
 
 -- An image of version 2 moved to version 1 and back is the same.
 pub downgrade-and-back : (o : Octets) (room : ℕ) → bytes o ≡ true → hubDowngrade o room .answer ≡ 0
-    → hubUpgrade (hubDowngrade o room .octets) room ≡ record { answer = 0; octets = o }
+    → hubUpgrade (hubDowngrade o room .octets) room ≡ record { answer = 0; offset = 0; octets = o }
 unfolding hubDowngrade
 downgrade-and-back o room b e =
     let m = was-moved Two One o room e in rw (m .octets) (back-there o (m .hub) room b (m .from) (m .tells) (m .enough))
@@ -230,11 +232,11 @@ downgrade-and-back o room b e =
 -- An image of version 1 whose names are clean, loaded, saved and moved back, is the same.
 pub clean-image-comes-back : (buffer o : Octets) (p : PlainHub) (room : ℕ) → bytes o ≡ true → eqb (length buffer) Lengths.state ≡ true → octet o 4 ≡ 1
     → load o ≡ some p → namesClean (p .controllers) ≡ true → ltb room Lengths.largestImage ≡ false
-    → hubDowngrade (hubSave (hubLoad buffer o .state) room .octets) room ≡ record { answer = 0; octets = o }
+    → hubDowngrade (hubSave (hubLoad buffer o .state) room .octets) room ≡ record { answer = 0; offset = 0; octets = o }
 clean-image-comes-back buffer o p room b n v l c r =
     let a = loaded-one o p l v in
     let q = load-is buffer o p n (accepts eitherVersion One o p (either-takes One) a) in
-    let s = save-loaded buffer o p room (load-ok o p b l) (ap (λ (x : Result Octets). x .state) q) r in
+    let s = save-loaded buffer o p room (load-ok o p b l) (ap (λ (x : Loaded). x .state) q) r in
     rw s (there-back o p room b a r ∙ rw (clean-exactly o p b a .1 c))
 
 -- With room, an image that load takes and that has version 2 is moved back exactly if every controller that supports BR/EDR has it on; else 8.
@@ -249,9 +251,9 @@ pub upgrades-answered : (o : Octets) (p : PlainHub) (room : ℕ) → octet o 4 �
 unfolding writes
 upgrades-answered o p room v l r = ap (λ (m : Moved). m .answer) (upgraded o p room (loaded-one o p l v) r)
 
--- With room, an image that load does not take is answered 7 by both moves.
+-- With room, an image that load does not take is answered 71 to 77 by both moves.
 pub bad-image-not-moved : (o : Octets) (room : ℕ) → load o ≡ none → ltb room Lengths.largestImage ≡ false
-    → (hubUpgrade o room .answer ≡ 7) × (hubDowngrade o room .answer ≡ 7)
+    → ((71 ≤ hubUpgrade o room .answer) × (hubUpgrade o room .answer ≤ 77)) × ((71 ≤ hubDowngrade o room .answer) × (hubDowngrade o room .answer ≤ 77))
 unfolding hubUpgrade hubDowngrade
 bad-image-not-moved o room n r = (
   refused-answer One Two o room r (λ p a. none-some p (sym n ∙ loads-by One o p a)),
@@ -261,12 +263,12 @@ bad-image-not-moved o room n r = (
     none-some : (p : PlainHub) → _≡_ {A = Option PlainHub} none (some p) → ⊥
     none-some p e = let z : _≡_ {A = ℕ} 0 1 = cc in absurd (omega arith)
 
--- One of another version than the one that is moved from is answered 7.
-pub other-version-not-moved : (o : Octets) (room : ℕ) → ltb room Lengths.largestImage ≡ false
-    → ((octet o 4 ≡ 1 → ⊥) → hubUpgrade o room .answer ≡ 7) × ((octet o 4 ≡ 2 → ⊥) → hubDowngrade o room .answer ≡ 7)
+-- With room, one that has a version octet, and another than that of the version moved from, is answered 72 with offset 4, whatever else it holds.
+pub other-version-not-moved : (o : Octets) (room : ℕ) → 5 ≤ length o → ltb room Lengths.largestImage ≡ false
+    → ((octet o 4 ≡ 1 → ⊥) → hubUpgrade o room ≡ record { answer = 72; offset = 4; octets = [] })
+    × ((octet o 4 ≡ 2 → ⊥) → hubDowngrade o room ≡ record { answer = 72; offset = 4; octets = [] })
 unfolding hubUpgrade hubDowngrade versionOctet
-other-version-not-moved o room r =
-    (λ n. refused-answer One Two o room r (λ p a. n (a .version)), λ n. refused-answer Two One o room r (λ p a. n (a .version)))
+other-version-not-moved o room l r = (λ n. other-answer One Two o room l r n, λ n. other-answer Two One o room l r n)
 
 -- An image that was moved back loads to what it loaded to before.
 pub downgraded-loads : (o : Octets) (room : ℕ) → bytes o ≡ true → hubDowngrade o room .answer ≡ 0 → load (hubDowngrade o room .octets) ≡ load o
@@ -288,10 +290,11 @@ pub only-tails-lost : (room : ℕ) (n : Octets) → length n ≡ room → (lengt
     × (take (length (usedPart n)) (nameBack Two room n) ≡ take (length (usedPart n)) n) × (allZero (drop (length (usedPart n)) (nameBack Two room n)) ≡ true)
 only-tails-lost = name-through
 
--- A move to version 2 is answered 0, 4 or 7, one back to version 1 also 8, and only with 0 anything is written.
-pub moves-answered : (o : Octets) (room : ℕ) → MoveAnswer false (hubUpgrade o room .answer) (hubUpgrade o room .octets)
-    × MoveAnswer true (hubDowngrade o room .answer) (hubDowngrade o room .octets)
-moves-answered = moves-told
+-- A move to version 2 is answered 0, 4 or 71 to 77, one back to version 1 also 8; only with 0 anything is written, and only with 71 to 77 an offset is
+-- told, at most the length of the image.
+pub moves-answered : (o : Octets) (room : ℕ) → MoveAnswer (length o) false (hubUpgrade o room .answer) (hubUpgrade o room .offset) (hubUpgrade o room .octets)
+    × MoveAnswer (length o) true (hubDowngrade o room .answer) (hubDowngrade o room .offset) (hubDowngrade o room .octets)
+moves-answered o room = moves-told (length o) o room (λ v. inside (only v) o)
 
 -- No move writes more than 16,014 octets.
 pub no-move-longer : (o : Octets) (room : ℕ) → bytes o ≡ true
@@ -324,9 +327,9 @@ refused-writes-one-reply s c = one-reply c _ _ (state-written s c)
 pub answers-are-seven : (s : Octets) (c : Call) → meaning s c .answer ≤ 6
 answers-are-seven s c = to-six c _ _ (state-written s c)
 
--- Load answers 0, 5 or 7 and writes nothing but the state.
-pub load-writes-nothing : (buffer image : Octets) → (loadAnswer (hubLoad buffer image .answer) ≡ true) × (hubLoad buffer image .octets ≡ [])
-load-writes-nothing = load-written
+-- Load answers 0, 5 or 71 to 77, and only with those it tells an offset, at most the length of the image.
+pub loads-answered : (buffer image : Octets) → LoadAnswer (length image) (hubLoad buffer image .answer) (hubLoad buffer image .offset)
+loads-answered buffer image = load-answered (length image) buffer image (inside eitherVersion image)
 
 -- Room ----------------------------------------------------------------------------------------------------------------------------------------
 

@@ -9,6 +9,7 @@ use Rattle.model.specs.Lengths as Lengths
 use Rattle.model.specs.Statuses as Statuses
 use Rattle.model.specs.Codes as Codes
 use Rattle.model.specs.Octets.{Octets, commandComplete, commandStatus}
+use Rattle.model.specs.declared.ImageFault.{ImageFault}
 use Rattle.model.specs.Answers.{numberOf, Done, Started, Refused, BadPacket, SmallBuffer, BadState, BadArgument, BadImage, NotInImage}
 use Rattle.model.specs.Reasons.{Reason, statusOf, CodeUnknown, ControllerAbsent, IndexNotNone, LengthWrong}
 use Rattle.model.specs.Hub.{Call, command, report, clock, plug, unplug, save, codeOf, indexOf, paramsOf}
@@ -102,13 +103,16 @@ pub data LookUpAnswer : ℕ → ℕ → Type 0 where
   badState : LookUpAnswer (numberOf BadState) 0
   wrong : LookUpAnswer (numberOf BadArgument) 0
 
--- what a move answers, and what is written: an image, or nothing; 8 only where it goes back to version 1
-pub data MoveAnswer : (back : Bool) → ℕ → Octets → Type 0 where
-  moved : {back : Bool} {o : Octets} → MoveAnswer back (numberOf (Done (length o))) o
-  noRoom : {back : Bool} → MoveAnswer back (numberOf SmallBuffer) []
-  badImage : {back : Bool} → MoveAnswer back (numberOf BadImage) []
-  notInImage : MoveAnswer true (numberOf NotInImage) []
+-- what a move of an image of n octets answers, the offset that comes with it, and what is written: an image, or nothing; 8 only where it goes back to
+-- version 1, an offset only with 71 to 77, and then one in the image or at its end
+pub data MoveAnswer (n : ℕ) : (back : Bool) → (answer offset : ℕ) → Octets → Type 0 where
+  moved : {back : Bool} {o : Octets} → MoveAnswer n back (numberOf (Done (length o))) 0 o
+  noRoom : {back : Bool} → MoveAnswer n back (numberOf SmallBuffer) 0 []
+  badImage : {back : Bool} (k : ImageFault) (at : ℕ) → at ≤ n → MoveAnswer n back (numberOf (BadImage k at)) at []
+  notInImage : MoveAnswer n true (numberOf NotInImage) 0 []
 
--- what load answers: done, a state buffer of another length, or an image that it does not take
-unfoldable pub loadAnswer : ℕ → Bool
-loadAnswer n = eqb n (numberOf (Done 0)) || (eqb n (numberOf BadState) || eqb n (numberOf BadImage))
+-- what load of an image of n octets answers, and the offset that comes with it: done, a state buffer of another length, or an image that it does not take
+pub data LoadAnswer (n : ℕ) : (answer offset : ℕ) → Type 0 where
+  loaded : LoadAnswer n (numberOf (Done 0)) 0
+  badState : LoadAnswer n (numberOf BadState) 0
+  badImage : (k : ImageFault) (at : ℕ) → at ≤ n → LoadAnswer n (numberOf (BadImage k at)) at

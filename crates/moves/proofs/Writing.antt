@@ -60,7 +60,7 @@ all-written to v image out d d1 d2 d3 p h e l q w a b c =
 pub small : (to v : Version) (image out : Octets) → length out < Lengths.largestImage
     → Gives (withRoom (length out) (rewritten to (judge (only v) image))) SmallBuffer out out
 unfolding withRoom onlyAnswer
-small to v image out h = rw (lt-ltb (length out) Lengths.largestImage h, withRoom) (record { answer = refl; count = refl; output = refl })
+small to v image out h = rw (lt-ltb (length out) Lengths.largestImage h, withRoom) (record { answer = refl; offset = refl; count = refl; output = refl })
 
 -- room enough
 roomy : (m : Moved) (room : ℕ) → Lengths.largestImage ≤ room → withRoom room m ≡ m
@@ -69,9 +69,10 @@ roomy m room h = rw (le-ltb _ _ h, withRoom)
 
 -- an image with a fault
 pub faulted : (to v : Version) (image out : Octets) (k : ImageFault) (at : ℕ) → Lengths.largestImage ≤ length out → judge (only v) image ≡ faulty k at
-    → Gives (withRoom (length out) (rewritten to (judge (only v) image))) BadImage out out
+    → Gives (withRoom (length out) (rewritten to (judge (only v) image))) (BadImage k at) out out
 unfolding rewritten onlyAnswer
-faulted to v image out k at h j = rw (roomy (rewritten to (judge (only v) image)) (length out) h, j) (record { answer = refl; count = refl; output = refl })
+faulted to v image out k at h j =
+    rw (roomy (rewritten to (judge (only v) image)) (length out) h, j) (record { answer = refl; offset = refl; count = refl; output = refl })
 
 -- an image that is acceptable in the version it is moved from drops nothing, and gives the hub of what was walked
 pub accepted-only : (v : Version) (image : Octets) (p : PlainHub) → judge (only v) image ≡ acceptable p
@@ -86,7 +87,7 @@ unfolding rewritten onlyAnswer
 unsaid to v image out p h six j s =
     let a = accepted-only v image p j in
     let n : hasImage to (p .controllers) ≡ false = rw (a .1) (whole v to image six (a .0) .said ∙ sym s) in
-    rw (roomy (rewritten to (judge (only v) image)) (length out) h, j, rewritten, n) (record { answer = refl; count = refl; output = refl })
+    rw (roomy (rewritten to (judge (only v) image)) (length out) h, j, rewritten, n) (record { answer = refl; offset = refl; count = refl; output = refl })
 
 -- it is written
 pub moved : (to v : Version) (image out d : Octets) (p : PlainHub) (r : ℕ) → bytes image ≡ true → Lengths.largestImage ≤ length out → 6 ≤ length image
@@ -100,4 +101,4 @@ moved to v image out d p r w h six j s n e =
     let m = image-room to v image w six (a .0) in
     let l : length (imageOf to (hubOf (walk v (drop 5 image)))) ≤ length out = omega (arith, image-length to v image six (a .0)) in
     rw (roomy (rewritten to (judge (only v) image)) (length out) h, j, rewritten, y, a .1)
-    (record { answer = refl; count = n; output = e ∙ write-front out (imageOf to (hubOf (walk v (drop 5 image)))) l })
+    (record { answer = refl; offset = refl; count = n; output = e ∙ write-front out (imageOf to (hubOf (walk v (drop 5 image)))) l })

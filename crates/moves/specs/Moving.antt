@@ -10,7 +10,7 @@ use Rattle.model.specs.declared.Hardware.{Hardware}
 use Rattle.model.specs.declared.Settings.{Settings}
 use Rattle.model.specs.declared.Version.{Version}
 use Rattle.model.specs.declared.Version.the-variants.{One, Two}
-use Rattle.model.specs.Answers.{countOf, numberOf}
+use Rattle.model.specs.Answers.{countOf, numberOf, offsetOf}
 use Rattle.model.specs.Octets.{Octets, be32}
 use Rattle.model.specs.State.{Table}
 use Rattle.model.specs.Tables.{tableRules}
@@ -63,6 +63,7 @@ allSaid w (g ∷ gs) = canSay w (g .controller .radio) && allSaid w gs
 -- a move answers r and makes of the output `before` the output `after`, as the model says
 pub record Gives (m : Moved) (r : Answer) (before after : Octets) : Type 0 where
   pub answer : numberOf r ≡ m .answer
+  pub offset : offsetOf r ≡ m .offset
   -- the count is the length of what is written
   pub count : countOf r ≡ length (m .octets)
   -- behind that the output is as it was

@@ -215,7 +215,8 @@ fn write(to: Version, image: &[u8], out: &mut [u8]) -> usize
     end
 }
 
-// A move: the room, the image in the version it is moved from, what the other can say; then it is written.
+// A move: the room, the image in the version it is moved from, told by its first fault where it is not acceptable, what the other can say; then it is
+// written.
 fn move_to(to: Version, image: &[u8], out: &mut [u8]) -> Answer
     ensures { λ r. ⌜
         Gives (withRoom (length (now (out .entry))) (rewritten to (judge (only (other to)) (now (image .entry))))) r (now (out .entry)) (now (out .exit))
@@ -231,7 +232,7 @@ fn move_to(to: Version, image: &[u8], out: &mut [u8]) -> Answer
             }
             Answer::NotInImage
         }
-        Judgement::Faulty(fault, place) => Answer::BadImage,
+        Judgement::Faulty(fault, place) => Answer::BadImage(fault, place),
     }
 }
 

@@ -9,11 +9,27 @@ ghost use Rattle.model.specs.Octets as Octets;
 ghost use Rattle.model.specs.Advertising.{removedOf, instances};
 ghost use Rattle.octets.specs.Parts.{part, writeAt};
 ghost use Rattle.replies.specs.Frames as Frames;
-ghost use Rattle.model.specs.Answers.{numberOf, countOf};
+ghost use Rattle.model.specs.Answers.{faultNumber, numberOf, countOf, offsetOf};
 ghost use Rattle.model.specs.declared.Answer.the-variants.{Refused};
 use model::Answer;
+use model::ImageFault;
 use model::Schedule;
 use model::events;
+
+// The number of what is wrong with an image.
+fn fault_number(fault: ImageFault) -> u64
+    ensures { λ r. ⌜ r ≡ faultNumber fault ⌝ }
+{
+    match fault {
+        ImageFault::BadLength => 71,
+        ImageFault::BadVersion => 72,
+        ImageFault::BadIndex => 73,
+        ImageFault::BadField => 74,
+        ImageFault::BadCount => 75,
+        ImageFault::BadRecord => 76,
+        ImageFault::Repeated => 77,
+    }
+}
 
 // The number of an answer.
 pub fn number(a: Answer) -> u64
@@ -27,7 +43,7 @@ pub fn number(a: Answer) -> u64
         Answer::SmallBuffer => 4,
         Answer::BadState => 5,
         Answer::BadArgument => 6,
-        Answer::BadImage => 7,
+        Answer::BadImage(fault, _) => fault_number(fault),
         Answer::NotInImage => 8,
         Answer::Incomplete => 9,
     }
@@ -45,7 +61,25 @@ pub fn count(a: Answer) -> usize
         Answer::SmallBuffer => 0,
         Answer::BadState => 0,
         Answer::BadArgument => 0,
-        Answer::BadImage => 0,
+        Answer::BadImage(_, _) => 0,
+        Answer::NotInImage => 0,
+        Answer::Incomplete => 0,
+    }
+}
+
+// The offset of the fault of an image, 0 with any other answer.
+pub fn offset(a: Answer) -> usize
+    ensures { λ r. ⌜ r ≡ offsetOf a ⌝ }
+{
+    match a {
+        Answer::Done(_) => 0,
+        Answer::Started => 0,
+        Answer::Refused(_) => 0,
+        Answer::BadPacket => 0,
+        Answer::SmallBuffer => 0,
+        Answer::BadState => 0,
+        Answer::BadArgument => 0,
+        Answer::BadImage(_, at) => at,
         Answer::NotInImage => 0,
         Answer::Incomplete => 0,
     }

@@ -11,7 +11,7 @@ ghost use Rattle.model.specs.Tables.{tableRules};
 ghost use Rattle.model.specs.Image.{padded};
 ghost use Rattle.model.specs.Reading.{hubOf, items, walk};
 ghost use Rattle.model.specs.Layout.{decode, encode};
-ghost use Rattle.model.specs.Answers.{countOf, numberOf};
+ghost use Rattle.model.specs.Answers.{countOf, numberOf, offsetOf};
 ghost use Rattle.model.specs.Meanings.{hubLoad, stateOk};
 ghost use Rattle.octets.specs.Parts.{part};
 ghost use Rattle.layout.specs.Places.{Ready, controllerOf, openAt, presentAt, putController};
@@ -147,10 +147,12 @@ fn fill(version: Version, state: &mut [u8], image: &[u8])
     }
 }
 
-// Load: the state that an image gives, if the state buffer has its length and the image keeps every rule; else nothing is written.
+// Load: the state that an image gives, if the state buffer has its length and the image keeps every rule; else nothing is written, and the answer tells the
+// first fault of the image and where that begins.
 pub fn load(state: &mut [u8], image: &[u8]) -> Answer
     ensures { λ r. ⌜
         (numberOf r ≡ hubLoad (now (state .entry)) (now (image .entry)) .answer) × (countOf r ≡ 0)
+        × (offsetOf r ≡ hubLoad (now (state .entry)) (now (image .entry)) .offset)
         × (now (state .exit) ≡ hubLoad (now (state .entry)) (now (image .entry)) .state)
         ⌝ }
 {
@@ -161,7 +163,7 @@ pub fn load(state: &mut [u8], image: &[u8]) -> Answer
                 return Answer::Done(0);
             }
             Judgement::Faulty(fault, place) => {
-                return Answer::BadImage;
+                return Answer::BadImage(fault, place);
             }
         }
     }

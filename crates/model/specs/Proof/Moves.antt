@@ -8,19 +8,21 @@ use mathlib.Core.List.{List, [], _∷_, map}
 use mathlib.Core.Option.{none, some}
 use lib.ListN.{length, drop, take, take-append-drop}
 use lib.Dec.{lit≤, ltb}
+use borrow.Author.Tests.{ne-eqb}
 use Rattle.model.specs.Lengths as Lengths
 use Rattle.model.specs.Octets.{Octets, bytes, octet}
 use Rattle.model.specs.State.{Controller, PlainHub, Table, withHost, withName}
 use Rattle.model.specs.Tables.{entries, loaded}
 use Rattle.model.specs.Image.{One, Two, Version, bredrAsSupported, canSay, closedUp, hasImage, imageOf, nameBack, namesBack, namesClean, reloaded, reloadedHub}
 use Rattle.model.specs.Image.{reloadedSlot, slotInImage, tailless, taillessHub, taillessSlot, tailZero, versionOctet}
-use Rattle.model.specs.Answers.{NotInImage}
-use Rattle.model.specs.Reading.{Judged, Slots, acceptable, faulty, hubOf, judge, load, only}
+use Rattle.model.specs.Answers.{NotInImage, faultNumber}
+use Rattle.model.specs.Reading.{Diagnosis, Judged, Slots, acceptable, diagnose, faultIn, faulty, hubOf, judge, load, only}
 use Rattle.model.specs.Moves.{Moved, hubDowngrade, hubUpgrade, onlyAnswer, rewritten, withRoom, writes}
 use Rattle.model.specs.Written.{MoveAnswer}
 use Rattle.model.specs.Written as MoveCase
 use Rattle.model.specs.WellFormed.{controllerOk, plainOk, slotOk, slotsOk}
-use Rattle.model.specs.Proof.Load.{Accepted, accepted-ok, accepts, loads-by, only-by, only-takes, walk-kept}
+use Rattle.model.specs.Proof.Load.{Accepted, accepted-ok, accepts, fault-number, loads-by, only-by, only-takes, walk-kept}
+use Rattle.model.specs.Proof.Diagnosis.{Inside, not-taken}
 use Rattle.model.specs.Proof.Parts.{lengths}
 use Rattle.model.specs.Proof.Stays.{plain-fit}
 use Rattle.model.specs.Proof.Tails.{names-same, same-names}
@@ -133,12 +135,13 @@ same-clean (some c ∷ s) k e =
 
 -- what a move comes to for an accepted image that the other version can tell
 moved : (v w : Version) (o : Octets) (p : PlainHub) (room : ℕ) → Accepted v o p → hasImage w (p .controllers) ≡ true → ltb room Lengths.largestImage ≡ false
-    → withRoom room (rewritten w (judge (only v) o)) ≡ record { answer = 0; octets = imageOf w p }
+    → withRoom room (rewritten w (judge (only v) o)) ≡ record { answer = 0; offset = 0; octets = imageOf w p }
 unfolding withRoom rewritten writes
 moved v w o p room h t r = rw (r, withRoom, accepts (only v) v o p (only-takes v) h, t, rewritten)
 
 -- the move to version 2 of an accepted version 1 image
-pub upgraded : (o : Octets) (p : PlainHub) (room : ℕ) → Accepted One o p → ltb room Lengths.largestImage ≡ false → hubUpgrade o room ≡ record { answer = 0; octets = imageOf Two p }
+pub upgraded : (o : Octets) (p : PlainHub) (room : ℕ) → Accepted One o p → ltb room Lengths.largestImage ≡ false
+    → hubUpgrade o room ≡ record { answer = 0; offset = 0; octets = imageOf Two p }
 unfolding hubUpgrade
 upgraded o p room h r = moved One Two o p room h (said-two (p .controllers)) r
 
@@ -158,7 +161,7 @@ was-moved v w o room =
     (λ t. by (judge (only v) o) refl t)
   where
     by : (j : Judged) → judge (only v) o ≡ j → ltb room Lengths.largestImage ≡ false → rewritten w j .answer ≡ 0 → WasMoved v w o room (rewritten w j)
-    by (faulty k at) q t = λ e. absurd (omega arith)
+    by (faulty k at) q t = λ e. absurd (omega (arith, fault-number k))
     by (acceptable p) q t =
         either {A = Moved} (λ r. r .answer ≡ 0 → WasMoved v w o room r) (hasImage w (p .controllers))
         (λ d e. record { hub = p; from = only-by v o p q; tells = d; enough = t; octets = refl })
@@ -171,7 +174,7 @@ to-tailless o p w h = rw (two-by-one (p .controllers)) (ap taillessHub (sym (set
 
 -- BACK: the image of an accepted version 1 image, moved to version 2 and back
 pub there-back : (o : Octets) (p : PlainHub) (room : ℕ) → bytes o ≡ true → Accepted One o p → ltb room Lengths.largestImage ≡ false
-    → hubDowngrade (imageOf Two p) room ≡ record { answer = 0; octets = imageOf One (taillessHub p) }
+    → hubDowngrade (imageOf Two p) room ≡ record { answer = 0; offset = 0; octets = imageOf One (taillessHub p) }
 unfolding hubDowngrade reloadedHub
 there-back o p room w h r =
     let a = saved-accepted Two p (accepted-ok One o p w h) (said-two (p .controllers)) in
@@ -200,7 +203,7 @@ clean-exactly o p w h = let ok = plain-fit p (accepted-ok One o p w h) .slots in
 
 -- AND BACK: an accepted version 2 image that version 1 can tell, moved to version 1 and back, is the same
 pub back-there : (o : Octets) (p : PlainHub) (room : ℕ) → bytes o ≡ true → Accepted Two o p → hasImage One (p .controllers) ≡ true → ltb room Lengths.largestImage ≡ false
-    → hubUpgrade (imageOf One p) room ≡ record { answer = 0; octets = o }
+    → hubUpgrade (imageOf One p) room ≡ record { answer = 0; offset = 0; octets = o }
 unfolding hubUpgrade reloadedHub
 back-there o p room w h t r =
     let s : p ≡ reloadedHub Two p = settled Two o p w h in
@@ -244,41 +247,66 @@ accepted-answer v w o p room h r =
     go true = refl
     go false = refl
 
--- a move of any other
+-- a move of one with a fault
+pub fault-answer : (v w : Version) (o : Octets) (room : ℕ) (d : Diagnosis) → ltb room Lengths.largestImage ≡ false → diagnose (only v) o ≡ some d
+    → withRoom room (rewritten w (judge (only v) o)) ≡ record { answer = d .number; offset = d .offset; octets = [] }
+unfolding withRoom rewritten onlyAnswer diagnose faultIn
+fault-answer v w o room d r e = rw (r, withRoom) (by (judge (only v) o) e)
+  where
+    by : (j : Judged) → faultIn j ≡ some d → rewritten w j ≡ record { answer = d .number; offset = d .offset; octets = [] }
+    by (faulty k at) q = let h : record { number = faultNumber k; offset = at } ≡ d = cc in rw (← h) refl
+    by (acceptable p) q = let z : _≡_ {A = ℕ} 0 1 = cc in absurd (omega arith)
+
+-- one that is not acceptable has a fault
 pub refused-answer : (v w : Version) (o : Octets) (room : ℕ) → ltb room Lengths.largestImage ≡ false → ((p : PlainHub) → Accepted v o p → ⊥)
-    → withRoom room (rewritten w (judge (only v) o)) .answer ≡ 7
+    → (71 ≤ withRoom room (rewritten w (judge (only v) o)) .answer) × (withRoom room (rewritten w (judge (only v) o)) .answer ≤ 77)
 unfolding withRoom rewritten onlyAnswer
 refused-answer v w o room r n = rw (r, withRoom) (by (judge (only v) o) refl)
   where
-    by : (j : Judged) → judge (only v) o ≡ j → rewritten w j .answer ≡ 7
-    by (faulty k at) q = refl
+    by : (j : Judged) → judge (only v) o ≡ j → (71 ≤ rewritten w j .answer) × (rewritten w j .answer ≤ 77)
+    by (faulty k at) q = fault-number k
     by (acceptable p) q = absurd (n p (only-by v o p q))
 
+-- one of another version than that moved from
+pub other-answer : (v w : Version) (o : Octets) (room : ℕ) → 5 ≤ length o → ltb room Lengths.largestImage ≡ false → (octet o 4 ≡ versionOctet v → ⊥)
+    → withRoom room (rewritten w (judge (only v) o)) ≡ record { answer = 72; offset = 4; octets = [] }
+unfolding withRoom rewritten onlyAnswer only
+other-answer v w o room l r n = rw (r, withRoom, not-taken (only v) o l (rw (ne-eqb (octet o 4) (versionOctet v) n, only)))
+
+-- what a move is answered, by all that is told
+abbrev Answered : ℕ → Bool → Moved → Type 0
+Answered n back m = MoveAnswer n back (m .answer) (m .offset) (m .octets)
+
 -- what an image comes to that is written anew in version 1
-back-answered : (j : Judged) → MoveAnswer true (rewritten One j .answer) (rewritten One j .octets)
-unfolding rewritten onlyAnswer writes
-back-answered (faulty k at) = MoveCase.badImage
-back-answered (acceptable p) =
-    either {A = Moved} (λ m. MoveAnswer true (m .answer) (m .octets)) (hasImage One (p .controllers)) (λ _. MoveCase.moved) (λ _. MoveCase.notInImage)
+back-answered : (n : ℕ) (j : Judged) → Inside n j → Answered n true (rewritten One j)
+unfolding rewritten onlyAnswer writes Inside
+back-answered n (faulty k at) h = MoveCase.badImage k at h
+back-answered n (acceptable p) h =
+    either {A = Moved} (Answered n true) (hasImage One (p .controllers)) (λ _. MoveCase.moved) (λ _. MoveCase.notInImage)
 
 -- in version 2, which can say everything
-forth-answered : (j : Judged) → MoveAnswer false (rewritten Two j .answer) (rewritten Two j .octets)
-unfolding rewritten onlyAnswer writes
-forth-answered (faulty k at) = MoveCase.badImage
-forth-answered (acceptable p) = rw (said-two (p .controllers), rewritten) MoveCase.moved
+forth-answered : (n : ℕ) (j : Judged) → Inside n j → Answered n false (rewritten Two j)
+unfolding rewritten onlyAnswer writes Inside
+forth-answered n (faulty k at) h = MoveCase.badImage k at h
+forth-answered n (acceptable p) h = rw (said-two (p .controllers), rewritten) MoveCase.moved
 
 -- with the room looked at first
-room-answered : (back : Bool) (room : ℕ) (m : Moved) → MoveAnswer back (m .answer) (m .octets)
-    → MoveAnswer back (withRoom room m .answer) (withRoom room m .octets)
+room-answered : (n : ℕ) (back : Bool) (room : ℕ) (m : Moved) → Answered n back m → Answered n back (withRoom room m)
 unfolding withRoom onlyAnswer
-room-answered back room m h =
-    either {A = Moved} (λ x. MoveAnswer back (x .answer) (x .octets)) (ltb room Lengths.largestImage) (λ _. MoveCase.noRoom) (λ _. h)
+room-answered n back room m h = either {A = Moved} (Answered n back) (ltb room Lengths.largestImage) (λ _. MoveCase.noRoom) (λ _. h)
 
--- EVERY MOVE IS ANSWERED 0, 4 or 7, and back to version 1 also 8
-pub moves-told : (o : Octets) (room : ℕ) → MoveAnswer false (hubUpgrade o room .answer) (hubUpgrade o room .octets)
-    × MoveAnswer true (hubDowngrade o room .answer) (hubDowngrade o room .octets)
+-- EVERY MOVE IS ANSWERED 0, 4 or 71 to 77, and back to version 1 also 8
+pub moves-told : (n : ℕ) (o : Octets) (room : ℕ) → ((v : Version) → Inside n (judge (only v) o))
+    → Answered n false (hubUpgrade o room) × Answered n true (hubDowngrade o room)
 unfolding hubUpgrade hubDowngrade
-moves-told o room = (
-  room-answered false room (rewritten Two (judge (only One) o)) (forth-answered (judge (only One) o)),
-  room-answered true room (rewritten One (judge (only Two) o)) (back-answered (judge (only Two) o)),
+moves-told n o room h = (
+  room-answered n false room (rewritten Two (judge (only One) o)) (forth-answered n (judge (only One) o) (h One)),
+  room-answered n true room (rewritten One (judge (only Two) o)) (back-answered n (judge (only Two) o) (h Two)),
 )
+
+-- no offset is above that of a fault
+pub move-offset : (n : ℕ) (back : Bool) (a at : ℕ) (o : Octets) → MoveAnswer n back a at o → at ≤ n
+move-offset n back a at o MoveCase.moved = omega arith
+move-offset n back a at o MoveCase.noRoom = omega arith
+move-offset n back a at o (MoveCase.badImage k x h) = h
+move-offset n back a at o MoveCase.notInImage = omega arith

@@ -25,11 +25,12 @@ use Rattle.model.specs.Hub.{refusalOctets, refused, report}
 use Rattle.model.specs.Hub.{reportOut, save, saveOut, stepOf, underWay, unlessBusy, unplug, unplugOut, unplugged, verdict, within}
 use Rattle.model.specs.Reading.{Judged, acceptable, eitherVersion, faulty, judge}
 use Rattle.model.specs.Layout.{decode}
-use Rattle.model.specs.Meanings.{badState, hubLoad, laidOut, loadMeaning, loadedInto, meaning, stateOk}
+use Rattle.model.specs.Meanings.{Loaded, badState, hubLoad, laidOut, leaves, loadMeaning, loadedInto, meaning, stateOk}
 use Rattle.model.specs.Written.{OneReply, Written, addressCommand, busy, busyCommand, byCommandComplete, byCommandStatus, hasArgument}
-use Rattle.model.specs.Written.{loadAnswer, ofCommand}
+use Rattle.model.specs.Written.{LoadAnswer, ofCommand}
 use Rattle.model.specs.Written.{UpToLength, noController, unknownCode, upToLength, wrongIndex, wrongLength}
 use Rattle.model.specs.Written as WrittenCase
+use Rattle.model.specs.Proof.Diagnosis.{Inside}
 use Rattle.model.specs.Proof.Tests.{and-true, either, equal, no-way, not-true}
 
 -- 1. How a refusal is written -------------------------------------------------------------------------------------------------------------------
@@ -337,14 +338,20 @@ to-six c n o WrittenCase.badState = omega arith
 to-six c n o (WrittenCase.badArgument g) = omega arith
 
 -- a load, by what it read
-load-written-by : (s : Octets) (x : Judged) → (loadAnswer (loadedInto s x .answer) ≡ true) × (loadedInto s x .octets ≡ [])
-unfolding loadedInto loadAnswer
-load-written-by s (faulty k at) = (refl, refl)
-load-written-by s (acceptable p) = (refl, refl)
+load-answered-by : (n : ℕ) (s : Octets) (x : Judged) → Inside n x → LoadAnswer n (loadedInto s x .answer) (loadedInto s x .offset)
+unfolding leaves loadedInto Inside
+load-answered-by n s (faulty k at) h = WrittenCase.badImage k at h
+load-answered-by n s (acceptable p) h = WrittenCase.loaded
 
--- a load answers 0, 5 or 7 and writes nothing but the state
-pub load-written : (s o : Octets) → (loadAnswer (hubLoad s o .answer) ≡ true) × (hubLoad s o .octets ≡ [])
-unfolding hubLoad loadMeaning badState loadAnswer
-load-written s o =
-    either {A = Result Octets} (λ r. (loadAnswer (r .answer) ≡ true) × (r .octets ≡ [])) (eqb (length s) Lengths.state) (λ _. load-written-by s (judge eitherVersion o))
-    (λ _. (refl, refl))
+-- a load answers 0, 5 or 71 to 77, and only with those it tells an offset, one of a fault
+pub load-answered : (n : ℕ) (s o : Octets) → Inside n (judge eitherVersion o) → LoadAnswer n (hubLoad s o .answer) (hubLoad s o .offset)
+unfolding hubLoad loadMeaning leaves
+load-answered n s o h =
+    either {A = Loaded} (λ r. LoadAnswer n (r .answer) (r .offset)) (eqb (length s) Lengths.state) (λ _. load-answered-by n s (judge eitherVersion o) h)
+    (λ _. WrittenCase.badState)
+
+-- no offset is above that of a fault
+pub load-offset : (n a at : ℕ) → LoadAnswer n a at → at ≤ n
+load-offset n a at WrittenCase.loaded = omega arith
+load-offset n a at WrittenCase.badState = omega arith
+load-offset n a at (WrittenCase.badImage k x h) = h

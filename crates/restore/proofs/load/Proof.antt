@@ -1,12 +1,10 @@
 -- `restore::load` meets its contract: length, image, state.
-use mathlib.Core.Path.{refl, sym, ap, subst}
-use Rattle.model.specs.Octets.{Octets}
+use mathlib.Core.Path.{subst}
 use Rattle.model.specs.Reading.{eitherVersion, judge}
-use Rattle.model.specs.Hub.{Result}
 use Rattle.reading.specs.declared.Judgement.{Judgement}
 use Rattle.reading.specs.declared.Judgement.the-variants.{Acceptable}
 use Rattle.reading.specs.Comes.{Judges}
-use Rattle.restore.proofs.Accepting.{load-done, load-length, load-refused}
+use Rattle.restore.proofs.Accepting.{load-done, load-length, load-refused, told}
 use borrow.Author.Needs.{needs}
 use Rattle.restore.proofs.load.Statement.{statement}
 use Rattle.restore.proofs.load.Tie as tie
@@ -33,7 +31,7 @@ returns c =
     let a = c .before .before .before .before .before .before .before .before .before .before .before .args in
     let j = judged (c .before .before .before .before) in
     let e = load-done (a .state .now) (a .image .now) (c .before .before .before .before .before .version .given .0 .0) (c .before .before .before .before .before .before .before .before .if1 .taken) (j .3) _ (c .before .before .fill .ensures) in
-    (sym (ap (λ (q : Result Octets). q .answer) e), refl, sym (ap (λ (q : Result Octets). q .state) e))
+    told _ _ _ _ e
 
 enum-known-fault : tie.Need-enum-known-fault
 enum-known-fault c = search needs
@@ -43,13 +41,13 @@ returns-2 c =
     let a = c .before .before .before .before .before .before .before .args in
     let x = c .before .fault .given in
     let e = load-refused (a .state .now) (a .image .now) (x .0 .0) (x .0 .1 .0) (c .before .before .before .before .if1 .taken) (subst (λ (r : Judgement). Judges (a .image .now) (judge eitherVersion (a .image .now)) r) (x .1) (c .before .before .before .judge-either .ensures)) in
-    (sym (ap (λ (q : Result Octets). q .answer) e), refl, sym (ap (λ (q : Result Octets). q .state) e))
+    told _ _ _ _ e
 
 returns-3 : tie.Need-returns-3
 returns-3 c =
     let a = c .before .before .before .args in
     let e = load-length (a .state .now) (a .image .now) (c .if1 .left) in
-    (sym (ap (λ (q : Result Octets). q .answer) e), refl, sym (ap (λ (q : Result Octets). q .state) e))
+    told _ _ _ _ e
 
 pub load-spec : {M : Type 1} → statement M
 load-spec =
