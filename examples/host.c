@@ -5,8 +5,9 @@
  * octets come off a serial line cut anywhere (tablet.h). Every packet and call is printed in words with its octets, and after it what is on air where that
  * has changed; behind a refused command stands why the hub refuses it, in the log too (outcomes.h).
  *
- *     host [IMAGE [LOG]]      IMAGE is read if it is there, in either version, and written on the way and at the end; IMAGE.1 is the same in version 1, and
- *                             is removed where version 1 cannot say it, as at the end; LOG gets every packet (call_log.h)
+ *     host [IMAGE [LOG]]      IMAGE is read if it is there, in either version, and written on the way and at the end; one that the hub does not take ends the
+ *                             host, which says what is wrong with it; IMAGE.1 is the same in version 1, and is removed where version 1 cannot say it, as at
+ *                             the end; LOG gets every packet (call_log.h)
  */
 #define _XOPEN_SOURCE 700
 #include <errno.h>

@@ -18,19 +18,24 @@
 #include "hub.h"
 #include "outcomes.h"
 
-/* Loads an image; 0 where the hub does not take it. Its fifth octet is its version. */
+/* Loads an image; 0 where the hub does not take it, and then says what is wrong with it, and where. Its fifth octet is its version. */
 static inline int load_image(const uint8_t *image, size_t length)
 {
     const unsigned version = length > 4 ? image[4] : 0;
     const uint64_t result = hub_load(state, sizeof state, image, length);
     printf("Image of version %u, %zu octets: %s\n", version, length, answer_name(hub_answer(result)));
+    if (hub_bad_image(result))
+        printf("    Answer %u at octet %zu. Nothing is loaded; 'hub check' names what stands there\n", hub_answer(result), hub_offset(result));
     if (hub_answer(result) == HUB_DONE && version == 1)
         printf("    The next save makes it version 2\n");
     radio_asks();
     return hub_answer(result) == HUB_DONE;
 }
 
-/* Starts from the image in a file, or fresh where there is none. Where one is there that cannot be read, a fresh start would end with a save over it. */
+/*
+ * Starts from the image in a file, or fresh where there is none. Where one is there that cannot be read, or that the hub does not take, a fresh start would end
+ * with a save over it.
+ */
 static inline int load_file(const char *path)
 {
     static const uint8_t empty[] = { 0, 0, 0, 6, 2, 0 };
@@ -51,7 +56,9 @@ static inline int load_file(const char *path)
     fclose(file);
     if (failed)
         printf("%s: cannot be read\n", path);
-    return !failed && load_image(image, length);
+    else if (length > HUB_IMAGE_MAX)
+        printf("%s: more than %u octets, so no image\n", path, HUB_IMAGE_MAX);
+    return !failed && length <= HUB_IMAGE_MAX && load_image(image, length);
 }
 
 /* Writes an image to a file; 0 where that fails. */

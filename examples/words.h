@@ -8,12 +8,30 @@
 #include <stdint.h>
 #include <stdio.h>
 
+#include "hub.h"
+
 /* An answer in words. */
 static inline const char *answer_name(unsigned answer)
 {
-    static const char *const names[] = { "done", "started", "refused", "bad packet", "small buffer", "bad state", "bad argument", "bad image",
-                                         "cannot be said", "incomplete" };
-    return answer < sizeof names / sizeof names[0] ? names[answer] : "?";
+    static const char *const names[] = {
+        [HUB_DONE] = "done",
+        [HUB_STARTED] = "started",
+        [HUB_REFUSED] = "refused",
+        [HUB_BAD_PACKET] = "bad packet",
+        [HUB_SMALL_BUFFER] = "small buffer",
+        [HUB_BAD_STATE] = "bad state",
+        [HUB_BAD_ARGUMENT] = "bad argument",
+        [HUB_NOT_IN_IMAGE] = "cannot be said",
+        [HUB_INCOMPLETE] = "incomplete",
+        [HUB_IMAGE_LENGTH] = "bad image, in its length or with octets left over",
+        [HUB_IMAGE_VERSION] = "bad image, of a version that is not taken",
+        [HUB_IMAGE_INDEX] = "bad image, in the count or an index of its controllers",
+        [HUB_IMAGE_FIELD] = "bad image, in a field of a controller",
+        [HUB_IMAGE_COUNT] = "bad image, in the count of a table",
+        [HUB_IMAGE_RECORD] = "bad image, in a record",
+        [HUB_IMAGE_REPEATED] = "bad image, with a record that repeats another",
+    };
+    return answer < sizeof names / sizeof names[0] && names[answer] ? names[answer] : "?";
 }
 
 /* Octets in hexadecimal, the first 32 of them. */

@@ -10,6 +10,7 @@
 #include <stdio.h>
 #include <string.h>
 
+#include "check.h"
 #include "hub.h"
 #include "messages.h"
 #include "move.h"
@@ -28,6 +29,15 @@ static const struct word {
       "    would be refused, status 0x0D: Invalid Parameters: the key type is above 4, record 1, octet 51\n"
       "Octets and records are counted from 0; docs/WHY.md has every wording.\n",
       why },
+    { "check", "IMAGE", 1, 1,
+      "check says whether the hub takes an image, of either version, and if not, what is wrong with it first, in one line:\n"
+      "    acceptable: version 2, 3 controllers, 812 octets\n"
+      "    76 at octet 37: record: blocked device 0 of controller 0 (index 0): the address is zero; 7 octets: 00 00 00 00 00 00 00\n"
+      "Octets, controllers and records are counted from 0. More may be wrong behind that. The Value of a key in a key\n"
+      "record is shown as **. But where a count, a length or the version is spoilt, what lies at the offset is read as\n"
+      "something else, and a piece of a key can be among the octets shown: treat the line as the image itself.\n"
+      "docs/IMAGE.md has the layout of an image, its rules and the numbers, 71 to 77.\n",
+      check },
     { "upgrade", "IN OUT", 2, 2,
       "upgrade makes an image of version 2 of the one of version 1 in the file IN. Octets of a name behind its first\n"
       "zero are left out, which is said.\n",
@@ -54,15 +64,15 @@ static void usage(FILE *to)
             "version 1 has BR/EDR on where it is supported.\n"
             "PACKET is octets in hexadecimal, in their order in the packet, where a number has its low octet first (code 0x0005\n"
             "is 05 00), as in 05000000010001 or 05:00:00:00:01:00:01 or, in one argument or in\n"
-            "several, 0x05 0x00 0x00 0x00 0x01 0x00 0x01; or it is @FILE, the octets of a file. HUB, PACKET or IN may be\n"
-            "-, the standard input.\n"
+            "several, 0x05 0x00 0x00 0x00 0x01 0x00 0x01; or it is @FILE, the octets of a file. HUB, PACKET, IMAGE or IN may\n"
+            "be -, the standard input.\n"
             "OUT is made, or replaced as a whole when all is done, and may be the file IN; else it is left as it was. A new OUT\n"
             "is for its owner alone to read and write (mode 0600), since an image holds keys; one that is replaced keeps owner,\n"
             "group and mode.\n"
             "\n"
-            "The exit code is 0 if all is fine (the packet would be taken, the image is moved), 1 if something was found (the\n"
-            "packet would be refused, the image has BR/EDR off), 2 if the use was wrong, or a file cannot be read or written or\n"
-            "is not what it should be.\n",
+            "The exit code is 0 if all is fine (the packet would be taken, the image is acceptable or moved), 1 if something was\n"
+            "found (the packet would be refused, check finds a fault, the image to be moved has BR/EDR off), 2 if the use was\n"
+            "wrong, or a file cannot be read or written or is not what it should be.\n",
             HUB_STATE_LEN);
 }
 

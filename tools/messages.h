@@ -4,8 +4,12 @@
 #ifndef MESSAGES_H
 #define MESSAGES_H
 
+#include <errno.h>
 #include <stdarg.h>
 #include <stdio.h>
+#include <string.h>
+
+#include "octets.h"
 
 /* The exit codes: all is fine; something was found; the use was wrong, or a file. */
 enum { FINE = 0, FOUND = 1, WRONG = 2 };
@@ -35,6 +39,12 @@ static inline int wrong(const char *format, ...)
     say_values(format, values);
     va_end(values);
     return WRONG;
+}
+
+/* Says why a whole file was not read, by errno. */
+static inline int unreadable(const char *path)
+{
+    return errno == EFBIG ? wrong("%s: more than %d MiB, too long to be read", path, (int)MEBIBYTES) : wrong("%s: %s", path, strerror(errno));
 }
 
 #endif

@@ -4,34 +4,32 @@
 #ifndef MOVE_H
 #define MOVE_H
 
-#include <errno.h>
 #include <stdint.h>
 #include <stdio.h>
+#include <stdlib.h>
 #include <string.h>
 
 #include "hub.h"
+#include "image_fault.h"
 #include "messages.h"
 #include "new_file.h"
 #include "octets.h"
 
-/* An image, with room for one octet more, to see that something is longer. */
-struct image {
-    uint8_t octets[HUB_IMAGE_MAX + 1];
-    size_t length;
-};
-
 /* A move from a version to the other one. */
 typedef uint64_t hub_move(const uint8_t *image, size_t image_len, uint8_t *out, size_t out_len);
 
-/* Says why octets are no image of the version that is moved from. */
-static inline int no_image(const char *path, const struct image *in, unsigned from)
+/* What a move writes. */
+static uint8_t moved[HUB_IMAGE_MAX];
+
+/* Says why octets are no image of the version that is moved from: what the move found at fault. */
+static inline int no_image(const char *path, const struct octets *in, uint64_t result, unsigned from)
 {
     static uint8_t state[HUB_STATE_LEN];
-    if (in->length > HUB_IMAGE_MAX)
-        return wrong("%s: more than %u octets, so no image", path, HUB_IMAGE_MAX);
+    struct line line;
+    const char *fault = say_fault(&line, result, in->octets, in->length, from);
     if (hub_answer(hub_load(state, sizeof state, in->octets, in->length)) == HUB_DONE)
-        return wrong("%s: of version %u already", path, image_version(in->octets, in->length));
-    return wrong("%s: %zu octets, no image of version %u that the hub takes", path, in->length, from);
+        return wrong("%s: of version %u already: %s", path, image_version(in->octets, in->length), fault);
+    return wrong("%s: no image of version %u that the hub takes: %s", path, from, fault);
 }
 
 /* Whether a controller of a hub supports BR/EDR and has it off: bit 7 of the settings that Read Controller Information tells, supported and current. */
@@ -45,7 +43,7 @@ static inline int is_off(uint8_t *state, uint8_t index)
 }
 
 /* Says where an image has BR/EDR off, so that it cannot be moved back. */
-static inline int not_in_version_1(const char *path, const struct image *in)
+static inline int not_in_version_1(const char *path, const struct octets *in)
 {
     static uint8_t state[HUB_STATE_LEN];
     char indexes[16] = "";
@@ -59,40 +57,45 @@ static inline int not_in_version_1(const char *path, const struct image *in)
 }
 
 /* Says that a name lost something in version 2, where the way back does not give the same octets. */
-static inline void say_lost(const char *path, const struct image *in, const struct image *out)
+static inline void say_lost(const char *path, const struct octets *in, size_t count)
 {
     static uint8_t back[HUB_IMAGE_MAX];
-    const uint64_t result = hub_downgrade(out->octets, out->length, back, sizeof back);
+    const uint64_t result = hub_downgrade(moved, count, back, sizeof back);
     if (hub_count(result) != in->length || memcmp(back, in->octets, in->length) != 0)
         note("%s: a name has octets behind its first zero; they are left out, as in every image of version 2", path);
 }
 
-/* Moves the image of a file to another file, or to the same. That is written only if the move is done. */
+/* Moves an image to a file, which is written only if the move is done. */
+static inline int move_octets(char **paths, const struct octets *in, hub_move *move, unsigned from)
+{
+    const uint64_t result = move(in->octets, in->length, moved, sizeof moved);
+    const char *fault;
+    if (hub_bad_image(result))
+        return no_image(paths[0], in, result, from);
+    if (hub_answer(result) == HUB_NOT_IN_IMAGE)
+        return not_in_version_1(paths[0], in);
+    if (hub_answer(result) != HUB_DONE)
+        return wrong("the library answers %u", hub_answer(result));
+    fault = replace_file(paths[1], moved, hub_count(result));
+    if (fault)
+        return wrong("%s: %s", paths[1], fault);
+    if (from == 1)
+        say_lost(paths[0], in, hub_count(result));
+    return FINE;
+}
+
+/* Moves the image of a file to another file, or to the same. */
 static inline int move_image(char **paths, hub_move *move, unsigned from)
 {
-    static struct image in, out;
-    const char *fault;
-    uint64_t result;
+    struct octets in;
+    int code;
     if (!*paths[0] || !*paths[1])
         return wrong("%s is empty, and not the name of a file", *paths[0] ? "OUT" : "IN");
     if (strcmp(paths[1], "-") == 0)
         return wrong("OUT is a file, not the standard output; one of that name is ./-");
-    if (!read_octets(paths[0], in.octets, sizeof in.octets, &in.length))
-        return wrong("%s: %s", paths[0], strerror(errno));
-    result = move(in.octets, in.length, out.octets, HUB_IMAGE_MAX);
-    out.length = hub_count(result);
-    if (hub_answer(result) == HUB_BAD_IMAGE)
-        return no_image(paths[0], &in, from);
-    if (hub_answer(result) == HUB_NOT_IN_IMAGE)
-        return not_in_version_1(paths[0], &in);
-    if (hub_answer(result) != HUB_DONE)
-        return wrong("the library answers %u", hub_answer(result));
-    fault = replace_file(paths[1], out.octets, out.length);
-    if (fault)
-        return wrong("%s: %s", paths[1], fault);
-    if (from == 1)
-        say_lost(paths[0], &in, &out);
-    return FINE;
+    code = read_file(paths[0], &in) ? move_octets(paths, &in, move, from) : unreadable(paths[0]);
+    free(in.octets);
+    return code;
 }
 
 /* hub upgrade: version 1 to 2. */

@@ -8,9 +8,11 @@
 #include <errno.h>
 #include <stdint.h>
 #include <stdio.h>
+#include <stdlib.h>
 #include <string.h>
 
 #include "hub.h"
+#include "image_fault.h"
 #include "messages.h"
 #include "octets.h"
 
@@ -30,28 +32,39 @@ static struct {
     const char *name;
 } packet;
 
-/* Takes the hub of a file: a state, which is known by its length, or an image, which is loaded; gives the version of an image, and 0 for a state. */
-static inline int take_hub(const char *path, unsigned *version)
+/* Takes the octets of a hub: a state, which is known by its length, or an image, which is loaded; gives the version of an image, and 0 for a state. */
+static inline int take_octets(const char *path, const struct octets *hub, unsigned *version)
 {
-    static uint8_t octets[HUB_STATE_LEN + 1], name[HUB_REPLY_MIN];
-    size_t length = 0;
-    if (!*path)
-        return wrong("HUB is empty, and not the name of a file");
-    if (!read_octets(path, octets, sizeof octets, &length))
-        return wrong("%s: %s", path, strerror(errno));
-    if (length > HUB_STATE_LEN)
-        return wrong("%s: more than %u octets, so neither a state nor an image", path, HUB_STATE_LEN);
+    static uint8_t name[HUB_REPLY_MIN];
+    struct line line;
+    uint64_t result;
     *version = 0;
-    if (length == HUB_STATE_LEN) {
-        memcpy(state, octets, length);
+    if (hub->length == HUB_STATE_LEN) {
+        memcpy(state, hub->octets, hub->length);
         if (hub_answer(hub_name(state, sizeof state, 0, 0, name, sizeof name)) == HUB_BAD_STATE)
-            return wrong("%s: %zu octets, as a state has, but not well formed", path, length);
+            return wrong("%s: %zu octets, as a state has, but not well formed", path, hub->length);
         return FINE;
     }
-    if (hub_answer(hub_load(state, sizeof state, octets, length)) != HUB_DONE)
-        return wrong("%s: %zu octets, no image that the hub loads, and a state has %u", path, length, HUB_STATE_LEN);
-    *version = image_version(octets, length);
+    result = hub_load(state, sizeof state, hub->octets, hub->length);
+    if (hub_bad_image(result))
+        return wrong("%s: no state, which has %u octets, and no image that the hub takes: %s", path, HUB_STATE_LEN,
+                     say_fault(&line, result, hub->octets, hub->length, 0));
+    if (hub_answer(result) != HUB_DONE)
+        return wrong("the library answers %u", hub_answer(result));
+    *version = image_version(hub->octets, hub->length);
     return FINE;
+}
+
+/* Takes the hub of a file. */
+static inline int take_hub(const char *path, unsigned *version)
+{
+    struct octets hub;
+    int code;
+    if (!*path)
+        return wrong("HUB is empty, and not the name of a file");
+    code = read_file(path, &hub) ? take_octets(path, &hub, version) : unreadable(path);
+    free(hub.octets);
+    return code;
 }
 
 /* Puts octets in hexadecimal behind those of the packet; 0 where they are something else. Spaces and colons may stand between octets, 0x before them. */

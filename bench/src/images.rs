@@ -131,32 +131,56 @@ impl Hub {
         seen.line(format!("image_{name}_{}", self.name), ours, theirs, more);
     }
 
-    /// Every one-octet change of its images is judged alike, by load and both moves.
+    /// Every one-octet change of its images is judged alike, and each of them cut at every octet, by load and both moves.
     fn judged_alike(&self) {
-        let (mut a, mut b) = (vec![0; IMAGE], vec![0; IMAGE]);
-        let (mut loaded, mut plainly) = (vec![0; STATE], vec![0; STATE]);
+        let mut judges = Judges::new();
         for mut image in self.images.clone() {
             for k in 0..image.len() {
                 let old = image[k];
                 for x in [old ^ 1, old.wrapping_add(0x80), 0] {
                     image[k] = x;
-                    let ours = [
-                        Library.load(&mut loaded, &image),
-                        upgrade(&image, &mut a),
-                        downgrade(&image, &mut a),
-                    ];
-                    let theirs = [
-                        plain_image::load(&mut plainly, &image),
-                        plain_image::upgrade(&image, &mut b),
-                        plain_image::downgrade(&image, &mut b),
-                    ];
-                    assert_eq!(ours, theirs, "{}: octet {k} made {x}", self.name);
-                    assert!(a == b && loaded == plainly, "{}: octet {k} made {x}", self.name);
+                    judges.agree(&image, || format!("{}: octet {k} made {x}", self.name));
                 }
                 image[k] = old;
             }
+            for length in 0..image.len() {
+                let mut cut = image[..length].to_vec();
+                judges.agree(&cut, || format!("{}: {length} octets", self.name));
+                if length >= 4 {
+                    cut[..4].copy_from_slice(&(length as u32).to_be_bytes());
+                    judges.agree(&cut, || format!("{}: cut to {length} octets", self.name));
+                }
+            }
         }
-        println!("load, upgrade and downgrade agree on every octet of both images of {} changed", self.name);
+        println!(
+            "load, upgrade and downgrade agree on every octet of both images of {} changed, and cut there",
+            self.name
+        );
+    }
+}
+
+/// Buffers that both write what they make of an image to.
+struct Judges {
+    out: [Vec<u8>; 2],
+    loaded: [Vec<u8>; 2],
+}
+
+impl Judges {
+    fn new() -> Judges {
+        Judges { out: [vec![0; IMAGE], vec![0; IMAGE]], loaded: [vec![0; STATE], vec![0; STATE]] }
+    }
+
+    /// Library and plain Rust give the same numbers, with the offsets of what is at fault, and write the same.
+    fn agree(&mut self, image: &[u8], what: impl Fn() -> String) {
+        let ([a, b], [loaded, plainly]) = (&mut self.out, &mut self.loaded);
+        let ours = [Library.load(loaded, image), upgrade(image, a), downgrade(image, a)];
+        let theirs = [
+            plain_image::load(plainly, image),
+            plain_image::upgrade(image, b),
+            plain_image::downgrade(image, b),
+        ];
+        assert_eq!(ours, theirs, "{}", what());
+        assert!(a == b && loaded == plainly, "{}", what());
     }
 }
 
@@ -179,7 +203,7 @@ pub fn lengths() {
     println!("image_length_largest {}", largest.lengths());
 }
 
-/// Images with one octet changed are judged alike.
+/// Images with one octet changed, and cut ones, are judged alike.
 pub fn judged_alike() {
     let [empty, usual, _] = HUBS.map(Hub::new);
     empty.judged_alike();

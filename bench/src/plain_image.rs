@@ -1,5 +1,5 @@
 //! Images in plain Rust: the state of one, the image of a state, and the moves between versions 1 and 2. An image is taken apart into slices of itself and
-//! looked at whole before anything is written.
+//! looked at whole before anything is written; what is refused is told with its first fault and where that begins.
 
 use crate::plain::{record, same, static_random, well_formed, zero};
 use crate::states::{BLOCK, SIZES, WAITING, WORDS};
@@ -32,18 +32,26 @@ impl Part<'_> {
 /// The controllers of an image, by index.
 type Parts<'a> = [Option<Part<'a>>; 4];
 
-/// What is still to be read.
-struct Rest<'a>(&'a [u8]);
+/// The number of a refused image: the answer, and where the first thing at fault begins.
+fn fault(answer: u64, at: usize) -> u64 {
+    answer | (at as u64) << 32
+}
+
+/// An image, and how much of it is read.
+struct Rest<'a> {
+    image: &'a [u8],
+    at: usize,
+}
 
 impl<'a> Rest<'a> {
-    fn take(&mut self, count: usize) -> Option<&'a [u8]> {
-        let (taken, rest) = self.0.split_at_checked(count)?;
-        self.0 = rest;
-        Some(taken)
+    fn take(&mut self, count: usize) -> Result<&'a [u8], u64> {
+        let taken = self.image.get(self.at..self.at + count).ok_or(fault(71, self.image.len()))?;
+        self.at += count;
+        Ok(taken)
     }
 
-    fn octet(&mut self) -> Option<u8> {
-        Some(self.take(1)?[0])
+    fn octet(&mut self) -> Result<u8, u64> {
+        Ok(self.take(1)?[0])
     }
 }
 
@@ -51,75 +59,104 @@ fn big_endian(octets: &[u8]) -> u32 {
     u32::from_be_bytes(octets[..4].try_into().unwrap())
 }
 
-/// Takes an image of a version apart, if it is acceptable.
-fn parts(image: &[u8], version: u8) -> Option<Parts<'_>> {
-    let mut rest = Rest(image);
-    let head = rest.take(6)?;
-    if big_endian(head) as usize != image.len() || head[4] != version || head[5] > 4 {
-        return None;
+/// Takes an image apart that has one of these versions and is acceptable; else the number of its first fault.
+fn parts(image: &[u8], versions: std::ops::RangeInclusive<u8>) -> Result<Parts<'_>, u64> {
+    let mut rest = Rest { image, at: 0 };
+    let head = rest.take(5)?;
+    if !versions.contains(&head[4]) {
+        return Err(fault(72, 4));
+    }
+    if big_endian(head) as usize != image.len() {
+        return Err(fault(71, 0));
+    }
+    let count = rest.octet()?;
+    if count > 4 {
+        return Err(fault(73, 5));
     }
     let (mut parts, mut least) = ([None; 4], 0);
-    for _ in 0..head[5] {
+    for _ in 0..count {
+        let at = rest.at;
         let index = usize::from(rest.octet()?);
         if index < least || index > 3 {
-            return None;
+            return Err(fault(73, at));
         }
         least = index + 1;
-        parts[index] = Some(part(&mut rest, version)?);
+        parts[index] = Some(part(&mut rest, head[4])?);
     }
-    rest.0.is_empty().then_some(parts)
+    if rest.at == image.len() {
+        Ok(parts)
+    } else {
+        Err(fault(71, rest.at))
+    }
 }
 
 /// A controller behind its index, if it keeps the rules.
-fn part<'a>(rest: &mut Rest<'a>, version: u8) -> Option<Part<'a>> {
+fn part<'a>(rest: &mut Rest<'a>, version: u8) -> Result<Part<'a>, u64> {
     let hardware = rest.take(13)?;
-    let written = big_endian(rest.take(4)?);
-    let fixed = rest.take(6)?;
     let supported = big_endian(&hardware[9..]);
     let (bredr, le) = (supported & BR_EDR, supported & LOW_ENERGY);
+    if supported >= 0x10000 || (bredr | le) == 0 || (bredr != 0 && zero(&hardware[..6])) {
+        return Err(fault(74, rest.at - 4));
+    }
+    let written = big_endian(rest.take(4)?);
     let flags = if version == 1 { written | bredr } else { written };
     let allowed = 0x12 | le | if version == 1 { 0 } else { bredr };
-    let fits = supported < 0x10000
-        && (bredr | le) != 0
-        && !(bredr != 0 && zero(&hardware[..6]))
-        && written & !allowed == 0
-        && flags & (BR_EDR | LOW_ENERGY) != 0
-        && (zero(fixed) || (le != 0 && static_random(fixed)));
-    if !fits {
-        return None;
+    if written & !allowed != 0 || flags & (BR_EDR | LOW_ENERGY) == 0 {
+        return Err(fault(74, rest.at - 4));
+    }
+    let fixed = rest.take(6)?;
+    if !zero(fixed) && (le == 0 || !static_random(fixed)) {
+        return Err(fault(74, rest.at - 6));
     }
     let names = [name(rest, version, NAMES[0].1)?, name(rest, version, NAMES[1].1)?];
     let mut tables = [&[][..]; 6];
     for (t, records) in tables.iter_mut().enumerate() {
-        *records = table(rest, t)?;
+        let kept = match t {
+            1 => bredr != 0,
+            2 | 3 => le != 0,
+            _ => true,
+        };
+        *records = table(rest, t, kept)?;
     }
-    let keyed =
-        (tables[1].is_empty() || bredr != 0) && (le != 0 || tables[2..4].iter().all(|t| t.is_empty()));
-    keyed.then_some(Part { hardware, flags, fixed, names, tables })
+    Ok(Part { hardware, flags, fixed, names, tables })
 }
 
 /// A name: in version 1 all its octets, the last one zero, in version 2 a length and as many octets, none zero.
-fn name<'a>(rest: &mut Rest<'a>, version: u8, room: usize) -> Option<&'a [u8]> {
-    if version == 1 {
-        return rest.take(room).filter(|name| name[room - 1] == 0);
+fn name<'a>(rest: &mut Rest<'a>, version: u8, room: usize) -> Result<&'a [u8], u64> {
+    let at = rest.at;
+    let (name, fits) = if version == 1 {
+        let name = rest.take(room)?;
+        (name, name[room - 1] == 0)
+    } else {
+        let length = usize::from(rest.octet()?);
+        let name = rest.take(length)?;
+        (name, length < room && !name.contains(&0))
+    };
+    if fits {
+        Ok(name)
+    } else {
+        Err(fault(74, at))
     }
-    let length = usize::from(rest.octet()?);
-    if length >= room {
-        return None;
-    }
-    rest.take(length).filter(|name| !name.contains(&0))
 }
 
-/// The records of a table, each by its own rule and no two for one device or UUID.
-fn table<'a>(rest: &mut Rest<'a>, t: usize) -> Option<&'a [u8]> {
+/// The records of a table that the controller may have, or not: each by its own rule and none for the device or UUID of an earlier one.
+fn table<'a>(rest: &mut Rest<'a>, t: usize, kept: bool) -> Result<&'a [u8], u64> {
     let count = usize::from(rest.octet()?);
     if count > 32 {
-        return None;
+        return Err(fault(75, rest.at - 1));
     }
-    let records = rest.take(count * SIZES[t])?;
-    let each = || records.chunks_exact(SIZES[t]).enumerate();
-    let fits = each().all(|(k, r)| record(t, r) && !each().skip(k + 1).any(|(_, q)| same(t, r, q)));
-    fits.then_some(records)
+    let start = rest.at;
+    for _ in 0..count {
+        let earlier = &rest.image[start..rest.at];
+        let r = rest.take(SIZES[t])?;
+        if !kept || !record(t, r) {
+            return Err(fault(76, rest.at - SIZES[t]));
+        }
+        if earlier.chunks_exact(SIZES[t]).any(|q| same(t, r, q)) {
+            return Err(fault(77, rest.at - SIZES[t]));
+        }
+    }
+    Ok(&rest.image[start..rest.at])
 }
 
 /// The octets of a name up to its first zero.
@@ -191,7 +228,7 @@ pub fn upgrade(image: &[u8], out: &mut [u8]) -> u64 {
     if out.len() < IMAGE {
         return 4;
     }
-    parts(image, 1).map_or(7, |parts| written(&parts, 2, out))
+    parts(image, 1..=1).map_or_else(|fault| fault, |parts| written(&parts, 2, out))
 }
 
 /// Version 2 to 1.
@@ -199,7 +236,10 @@ pub fn downgrade(image: &[u8], out: &mut [u8]) -> u64 {
     if out.len() < IMAGE {
         return 4;
     }
-    let Some(parts) = parts(image, 2) else { return 7 };
+    let parts = match parts(image, 2..=2) {
+        Ok(parts) => parts,
+        Err(fault) => return fault,
+    };
     if parts.iter().flatten().any(|part| part.supported() & !part.flags & BR_EDR != 0) {
         return 8;
     }
@@ -208,11 +248,10 @@ pub fn downgrade(image: &[u8], out: &mut [u8]) -> u64 {
 
 /// A state is made from an image of either version.
 pub fn load(state: &mut [u8], image: &[u8]) -> u64 {
-    let version = *image.get(4).unwrap_or(&0);
-    if version != 1 && version != 2 {
-        return 7;
-    }
-    let Some(parts) = parts(image, version) else { return 7 };
+    let parts = match parts(image, 1..=2) {
+        Ok(parts) => parts,
+        Err(fault) => return fault,
+    };
     state.fill(0);
     for (part, block) in parts.iter().zip(state[4..WAITING].chunks_exact_mut(BLOCK)) {
         if let Some(part) = part {

@@ -2,8 +2,8 @@
  * Static random addresses from C: the two that have both top bits set and a random part, the 46 bits below, of all 0 or all 1, and all neighbours of these
  * in one bit. Each is a static address and the address of a long term and of an identity resolving key, the first or the last one, in a command, in an
  * image of either version, loaded and moved, and in a lent state. Of these 98 the two and their neighbours in the top bits are refused, with Invalid
- * Parameters, 7 and 5, and nothing lent is touched; the others are taken, and so is every one of an LE Public key. Three more lack a top bit, with bits of
- * both kinds below it, and are refused too. What is taken stands in the state where it has to, and all else there is as it was.
+ * Parameters, 74 or 76 where it stands, and 5, and nothing lent is touched; the others are taken, and so is every one of an LE Public key. Three more lack a
+ * top bit, with bits of both kinds below it, and are refused too. What is taken stands in the state where it has to, and all else there is as it was.
  */
 #include "lent.h"
 
@@ -93,18 +93,21 @@ static struct lent lend_image(const struct trial *trial, int old)
     return lent;
 }
 
-/* The image loads to the state that has the address, and is moved to the other version; or it is answered 7 by both. */
+/* The image loads to the state that has the address, and is moved to the other version; or both say that the field or the record is wrong. */
 static void try_image(const struct trial *trial, size_t number, int old)
 {
     struct lent state = lend(HUB_STATE_LEN, NULL, 0), reply = lend(HUB_IMAGE_MAX, NULL, 0);
     struct lent lent = lend_image(trial, old), other = lend_image(trial, !old);
-    const unsigned answer = trial->taken ? HUB_DONE : HUB_BAD_IMAGE;
+    const size_t moved = old && trial->place->in_image > TABLES ? OLD_TABLES - TABLES : 0;
+    const size_t at = trial->place->in_image + moved + trial->place->record * trial->key;
+    const unsigned answer = trial->taken ? HUB_DONE : trial->place->record == 0 ? HUB_IMAGE_FIELD : HUB_IMAGE_RECORD;
+    const uint32_t extra = trial->taken ? 0 : (uint32_t)at;
     uint64_t result = hub_load(state.octets, state.length, lent.octets, lent.length);
     if (trial->taken)
         memcpy(state.before, trial->state, HUB_STATE_LEN);
-    expect(trial->place->what, number, result, answer, &state, NULL, NULL, 0);
+    expect_extra(trial->place->what, number, result, answer, extra, &state, NULL, NULL, 0);
     result = (old ? hub_upgrade : hub_downgrade)(lent.octets, lent.length, reply.octets, reply.length);
-    expect("image, moved", number, result, answer, &lent, &reply, other.octets, trial->taken ? other.length : 0);
+    expect_extra("image, moved", number, result, answer, extra, &lent, &reply, other.octets, trial->taken ? other.length : 0);
     take_back(other);
     take_back(lent);
     take_back(reply);

@@ -1,108 +1,17 @@
 /*
  * Images of both versions from C, loaded and moved: each octet of small ones with every value, names of every length and with a zero at every place, every
  * flag for each support, images cut short and with octets behind them, inputs of up to 20,000 octets and of a million, noise, buffers of other lengths.
- * load, upgrade and downgrade have to agree: an image that loads is moved from its own version, and to the octets that this program makes of it itself; in
- * the other version it is answered 7. One that does not load is answered 7 by all three. What a call refuses leaves all that was lent as it was.
+ * An image that loads is moved from its own version, to the octets that this program makes of it itself. One that does not is answered by all three with the
+ * number and the offset that the walk in diagnosis.h finds. What a call refuses leaves all that was lent as it was.
  *
  *     bad_images [STRIDE]      every STRIDE-th value, length and piece of noise away from the limits; every one if nothing is said
  */
-#include "lent.h"
+#include "images.h"
 
-enum { FIXED = 24, NAME = 249, SHORT_NAME = 11, SUPPORTED = 16, FLAGS = 20, NAMES = 30, LONGEST = 20000, MILLION = 1000000 };
-enum { BREDR = 0x80, CLASSIC = 0x0081, LE = 0x0201, DUAL = 0x0281 };
+enum { LONGEST = 20000, MILLION = 1000000 };
 
-/* An image that is made here, with room for what is behind the longest. */
-struct image {
-    uint8_t octets[HUB_IMAGE_MAX + 600];
-    size_t length;
-};
-
-static const size_t records[6] = { 17, 25, 36, 23, 7, 8 };
 static unsigned long taken, refused;
 static size_t stride = 1;
-
-static void append(struct image *image, const void *octets, size_t count)
-{
-    memcpy(image->octets + image->length, octets, count);
-    image->length += count;
-}
-
-/* Sets the length field. */
-static void close_up(struct image *image)
-{
-    image->octets[0] = 0;
-    image->octets[1] = (uint8_t)(image->length >> 16);
-    image->octets[2] = (uint8_t)(image->length >> 8);
-    image->octets[3] = (uint8_t)image->length;
-}
-
-static void begin(struct image *image, unsigned version, unsigned count)
-{
-    const uint8_t head[6] = { 0, 0, 0, 0, (uint8_t)version, (uint8_t)count };
-    image->length = 0;
-    append(image, head, sizeof head);
-}
-
-/* The fixed part of a controller up to its names; the flags are those of version 1, in version 2 BR/EDR is on as supported. */
-static void append_fixed(struct image *image, unsigned index, unsigned supported, unsigned flags)
-{
-    const unsigned all = image->octets[4] == 1 ? flags : flags | (supported & BREDR);
-    const uint8_t fixed[FIXED] = { (uint8_t)index, 0x11, 0x22, 0x33, 0x44, 0x55, 0x66, 9, 1, 15, 0, 0, (uint8_t)(supported >> 8), (uint8_t)supported, 0, 0,
-                                   (uint8_t)(all >> 8), (uint8_t)all };
-    append(image, fixed, sizeof fixed);
-}
-
-/* A name of so many letters as a version has it. */
-static void append_name(struct image *image, size_t all, size_t length)
-{
-    uint8_t name[256] = { 0 };
-    const int second = image->octets[4] == 2;
-    name[0] = (uint8_t)length;
-    memset(name + second, 'n', length);
-    append(image, name, second ? 1 + length : all);
-}
-
-/* Record k of a table: valid, and unlike the others. */
-static void append_record(struct image *image, unsigned table, unsigned k)
-{
-    uint8_t record[36];
-    memset(record, 0x42, sizeof record);
-    record[0] = (uint8_t)(k + 1);
-    record[5] = 0xC4;
-    record[6] = table == 1 ? 0 : 2;
-    record[7] = 1;
-    record[8] = 0;
-    record[9] = 16;
-    append(image, record, records[table]);
-}
-
-/* Six tables of so many records each. */
-static void append_tables(struct image *image, unsigned count)
-{
-    const uint8_t octet = (uint8_t)count;
-    for (unsigned table = 0; table < 6; table++) {
-        append(image, &octet, 1);
-        for (unsigned k = 0; k < count; k++)
-            append_record(image, table, k);
-    }
-}
-
-/* A dual-mode controller with names of these lengths and so many records in each table. */
-static void append_controller(struct image *image, unsigned index, size_t name, size_t short_name, unsigned count)
-{
-    append_fixed(image, index, DUAL, 0x0212);
-    append_name(image, NAME, name);
-    append_name(image, SHORT_NAME, short_name);
-    append_tables(image, count);
-}
-
-/* One such controller, at 1. */
-static void make_one(struct image *image, unsigned version, size_t name, size_t short_name, unsigned count)
-{
-    begin(image, version, 1);
-    append_controller(image, 1, name, short_name, count);
-    close_up(image);
-}
 
 /* A name of an image, in the other version; gives the octets that it had. */
 static size_t move_name(struct image *to, const uint8_t *from, size_t all)
@@ -146,12 +55,12 @@ static int move(struct image *to, const uint8_t *from)
     return 1;
 }
 
-/* One move of an image with this room: the number, the octets, and all else as it was. */
-static void try_move(const char *what, size_t with, const struct lent *image, int upgrade, size_t room, unsigned answer, const struct image *wanted)
+/* One move of an image with this room: the number and offset, the octets, and all else as it was. */
+static void try_move(const char *what, size_t with, const struct lent *image, int upgrade, size_t room, struct fault fault, const struct image *wanted)
 {
     struct lent out = lend(room, NULL, 0);
     uint64_t result = (upgrade ? hub_upgrade : hub_downgrade)(image->octets, image->length, out.octets, out.length);
-    expect(what, with, result, answer, image, &out, wanted->octets, answer == HUB_DONE ? wanted->length : 0);
+    expect_fault(what, with, result, fault, image, &out, wanted->octets, wanted->length);
     take_back(out);
 }
 
@@ -175,21 +84,24 @@ static void try_image(const char *what, size_t with, const uint8_t *octets, size
     static struct image moved;
     struct lent image = lend(length, octets, length), state = lend(HUB_STATE_LEN, NULL, 0);
     const uint64_t result = hub_load(state.octets, state.length, image.octets, image.length);
-    const int loads = right < 0 ? hub_answer(result) == HUB_DONE : right;
-    const unsigned version = loads && hub_answer(result) == HUB_DONE ? octets[4] : 0;
-    unsigned own = HUB_DONE;
+    const struct fault fault = diagnose(octets, length, BOTH);
+    struct fault up = diagnose(octets, length, FIRST), down = diagnose(octets, length, SECOND);
+    const int loads = fault.answer == HUB_DONE;
+    if (right >= 0 && right != loads)
+        expect("what is known of it", with, HUB_DONE, fault.answer, &image, NULL, NULL, 0);
     if (loads)
         memcpy(state.before, state.octets, HUB_STATE_LEN);
-    expect(what, with, result, loads ? HUB_DONE : HUB_BAD_IMAGE, &state, NULL, NULL, 0);
+    expect_fault(what, with, result, fault, &state, NULL, NULL, 0);
     expect("image, as it was", with, HUB_DONE, HUB_DONE, &image, NULL, NULL, 0);
-    if (version != 0) {
-        own = move(&moved, octets) ? HUB_DONE : HUB_NOT_IN_IMAGE;
-        try_save(what, with, &state, version == 1 ? moved.octets : octets, version == 1 ? moved.length : length);
+    if (loads) {
+        if (!move(&moved, octets))
+            down.answer = HUB_NOT_IN_IMAGE;
+        try_save(what, with, &state, octets[4] == 1 ? moved.octets : octets, octets[4] == 1 ? moved.length : length);
     }
-    try_move(what, with, &image, 1, HUB_IMAGE_MAX, version == 1 ? own : HUB_BAD_IMAGE, &moved);
-    try_move(what, with, &image, 0, HUB_IMAGE_MAX, version == 2 ? own : HUB_BAD_IMAGE, &moved);
-    taken += version != 0;
-    refused += version == 0;
+    try_move(what, with, &image, 1, HUB_IMAGE_MAX, up, &moved);
+    try_move(what, with, &image, 0, HUB_IMAGE_MAX, down, &moved);
+    taken += loads;
+    refused += !loads;
     take_back(state);
     take_back(image);
 }
@@ -331,7 +243,7 @@ static void try_noise(unsigned count)
     }
 }
 
-/* Moves into buffers of seven lengths: 4 where it is too short, whatever the image is; then 7, then 8. */
+/* Moves into buffers of seven lengths: 4 where it is too short, whatever the image is; then 71 to 77, then 8. */
 static void try_rooms(void)
 {
     static const size_t rooms[7] = { 0, 1, HUB_REPLY_MIN, HUB_IMAGE_MAX - 1, HUB_IMAGE_MAX, HUB_IMAGE_MAX + 1, 20000 };
@@ -343,13 +255,13 @@ static void try_rooms(void)
     images[3].length++;
     for (unsigned k = 0; k < 4; k++)
         for (unsigned i = 0; i < 7; i++) {
-            static const unsigned answers[4][2] = {
-                { HUB_BAD_IMAGE, HUB_DONE }, { HUB_DONE, HUB_BAD_IMAGE }, { HUB_NOT_IN_IMAGE, HUB_BAD_IMAGE }, { HUB_BAD_IMAGE, HUB_BAD_IMAGE }
-            };
+            static const struct fault room = { HUB_SMALL_BUFFER, 0 }, other = { HUB_IMAGE_VERSION, 4 }, more = { HUB_IMAGE_LENGTH, 0 };
+            static const struct fault done = { HUB_DONE, 0 }, off = { HUB_NOT_IN_IMAGE, 0 };
+            const struct fault faults[4][2] = { { other, done }, { done, other }, { off, other }, { more, other } };
             struct lent lent = lend(images[k].length, images[k].octets, images[k].length);
             (void)move(&moved, images[k].octets);
             for (int upgrade = 0; upgrade < 2; upgrade++)
-                try_move("room", rooms[i], &lent, upgrade, rooms[i], rooms[i] < HUB_IMAGE_MAX ? HUB_SMALL_BUFFER : answers[k][upgrade], &moved);
+                try_move("room", rooms[i], &lent, upgrade, rooms[i], rooms[i] < HUB_IMAGE_MAX ? room : faults[k][upgrade], &moved);
             take_back(lent);
         }
 }

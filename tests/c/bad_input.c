@@ -205,18 +205,22 @@ static void try_plugs(void)
     take_back(state);
 }
 
-/* The first octets of an image of either version, or the image with some behind it: 7, from load into a buffer that holds anything, and from a move. */
+/*
+ * The first octets of an image of either version, or the image with some behind it, from load into a buffer that holds anything, and from a move: 71, at the
+ * end of fewer than five octets, else at the length field.
+ */
 static void try_image_length(size_t length)
 {
     struct lent state = lend(HUB_STATE_LEN, NULL, 0), reply = lend(HUB_IMAGE_MAX, NULL, 0);
     struct lent cut = lend(length, image, image_length), old = lend(length, old_image, old_length);
+    const uint32_t at = length < 5 ? (uint32_t)length : 0;
     if (length != image_length) {
-        expect("image length", length, hub_load(state.octets, state.length, cut.octets, length), HUB_BAD_IMAGE, &state, NULL, NULL, 0);
-        expect("image length", length, hub_downgrade(cut.octets, length, reply.octets, reply.length), HUB_BAD_IMAGE, &cut, &reply, NULL, 0);
+        expect_extra("image length", length, hub_load(state.octets, state.length, cut.octets, length), HUB_IMAGE_LENGTH, at, &state, NULL, NULL, 0);
+        expect_extra("image length", length, hub_downgrade(cut.octets, length, reply.octets, reply.length), HUB_IMAGE_LENGTH, at, &cut, &reply, NULL, 0);
     }
     if (length != old_length) {
-        expect("image length", length, hub_load(state.octets, state.length, old.octets, length), HUB_BAD_IMAGE, &state, NULL, NULL, 0);
-        expect("image length", length, hub_upgrade(old.octets, length, reply.octets, reply.length), HUB_BAD_IMAGE, &old, &reply, NULL, 0);
+        expect_extra("image length", length, hub_load(state.octets, state.length, old.octets, length), HUB_IMAGE_LENGTH, at, &state, NULL, NULL, 0);
+        expect_extra("image length", length, hub_upgrade(old.octets, length, reply.octets, reply.length), HUB_IMAGE_LENGTH, at, &old, &reply, NULL, 0);
     }
     take_back(old);
     take_back(cut);

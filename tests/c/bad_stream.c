@@ -375,7 +375,7 @@ static void try_loads(void)
     long_one(0);
     put_waiting(state.octets, line, WHOLE);
     memcpy(state.before, state.octets, HUB_STATE_LEN);
-    expect("load of no image", 0, hub_load(state.octets, state.length, empty, 5), HUB_BAD_IMAGE, &state, NULL, NULL, 0);
+    expect("load of no image", 0, hub_load(state.octets, state.length, empty, 5), HUB_IMAGE_LENGTH, &state, NULL, NULL, 0);
     memset(state.before, 0, HUB_STATE_LEN);
     expect("load of the empty image", 0, hub_load(state.octets, state.length, empty, sizeof empty), HUB_DONE, &state, NULL, NULL, 0);
     take_back(state);

@@ -37,7 +37,8 @@ static unsigned run(void)
     uint64_t result;
     if (hub_answer(hub_load(state, sizeof state, fresh, sizeof fresh)) != HUB_DONE)
         return 100;
-    if (hub_answer(hub_load(state, sizeof state, later, sizeof later)) != HUB_BAD_IMAGE)
+    result = hub_load(state, sizeof state, later, sizeof later);
+    if (hub_answer(result) != HUB_IMAGE_VERSION || hub_offset(result) != 4)
         return 101;
     if (hub_answer(hub_plug(state, sizeof state, 3, address, 6, 9, 15, 0x0281, reply, sizeof reply)) != HUB_DONE)
         return 102;

@@ -79,7 +79,7 @@ static void not_in_image(void)
     expect("save, BR/EDR on", hub_answer(result), HUB_DONE);
     expect("its version", reply[4], 2);
     expect("its move, one octet short", (unsigned)hub_downgrade(reply, hub_count(result), moved, HUB_IMAGE_MAX - 1), HUB_SMALL_BUFFER);
-    expect("its move to version 2", (unsigned)hub_upgrade(reply, hub_count(result), moved, HUB_IMAGE_MAX), HUB_BAD_IMAGE);
+    expect("its move to version 2", (unsigned)hub_upgrade(reply, hub_count(result), moved, HUB_IMAGE_MAX), HUB_IMAGE_VERSION);
     result = hub_downgrade(reply, hub_count(result), moved, HUB_IMAGE_MAX);
     expect("its move to version 1", hub_answer(result), HUB_DONE);
     expect("its version there", moved[4], 1);
@@ -89,6 +89,55 @@ static void not_in_image(void)
     expect("its octets", (unsigned)hub_count(result), 6);
     expect("its version there", moved[4], 2);
     expect("the same, one octet short", (unsigned)hub_upgrade(empty, sizeof empty, moved, HUB_IMAGE_MAX - 1), HUB_SMALL_BUFFER);
+}
+
+/* Whether load tells this number and this offset of the image in the buffer. */
+static void told(const char *what, size_t length, unsigned answer, size_t offset)
+{
+    const uint64_t result = hub_load(state, HUB_STATE_LEN, moved, length);
+    expect(what, hub_answer(result), answer);
+    expect("where it is", (unsigned)hub_offset(result), (unsigned)offset);
+    expect("whether it is a bad image", (unsigned)hub_bad_image(result), 1);
+    expect("its octets", (unsigned)hub_count(result), 0);
+}
+
+/* Each number of a refused image, of a controller at 3 without names or records: 38 octets, its tables from 32 on. */
+static void bad_images(void)
+{
+    static const uint8_t one[38] = { 0, 0, 0, 38, 2, 1, 3, 1, 2, 3, 4, 5, 6, 9, 0, 15, 0, 0, 2, 0x81, 0, 0, 2, 0x80 };
+    memcpy(moved, one, sizeof one);
+    expect("the image", (unsigned)hub_load(state, HUB_STATE_LEN, moved, sizeof one), HUB_DONE);
+    expect("whether it is a bad one", (unsigned)hub_bad_image(HUB_DONE), 0);
+    told("cut short", 4, 71, 4);
+    told("another length", 37, HUB_IMAGE_LENGTH, 0);
+    moved[4] = 7;
+    told("another version", sizeof one, HUB_IMAGE_VERSION, 4);
+    expect("its number", HUB_IMAGE_VERSION, 72);
+    moved[4] = 2;
+    moved[5] = 5;
+    told("five controllers", sizeof one, HUB_IMAGE_INDEX, 5);
+    expect("its number", HUB_IMAGE_INDEX, 73);
+    moved[5] = 1;
+    moved[20] = 1;
+    told("a flag", sizeof one, HUB_IMAGE_FIELD, 20);
+    expect("its number", HUB_IMAGE_FIELD, 74);
+    moved[20] = 0;
+    moved[37] = 33;
+    told("a count", sizeof one, HUB_IMAGE_COUNT, 37);
+    expect("its number", HUB_IMAGE_COUNT, 75);
+    moved[37] = 2;
+    moved[3] = 38 + 16;
+    memset(moved + 38, 1, 16);
+    moved[53] = 3;
+    told("a record", 38 + 16, HUB_IMAGE_RECORD, 46);
+    expect("its number", HUB_IMAGE_RECORD, 76);
+    moved[53] = 2;
+    told("a repeated record", 38 + 16, HUB_IMAGE_REPEATED, 46);
+    expect("its number", HUB_IMAGE_REPEATED, 77);
+    expect("the offset in a number", (unsigned)hub_offset((uint64_t)16014 << 32 | 71), 16014);
+    expect("no bad image below 71", (unsigned)hub_bad_image((uint64_t)1 << 32 | 70), 0);
+    expect("nor above 77", (unsigned)hub_bad_image(78), 0);
+    expect("the number 71", HUB_IMAGE_LENGTH, 71);
 }
 
 /* Read Version off the serial line: five octets, no room, the sixth with another behind it. */
@@ -119,7 +168,7 @@ static void load_and_read(void)
     expect("state one octet long", hub_answer(hub_load(state, HUB_STATE_LEN + 1, empty, sizeof empty)), HUB_BAD_STATE);
     memcpy(changed, empty, sizeof empty);
     changed[4] = 3;
-    expect("image of another version", hub_answer(hub_load(state, HUB_STATE_LEN, changed, sizeof changed)), HUB_BAD_IMAGE);
+    expect("image of another version", hub_answer(hub_load(state, HUB_STATE_LEN, changed, sizeof changed)), HUB_IMAGE_VERSION);
     changed[4] = 2;
     expect("empty image of version 2", hub_answer(hub_load(state, HUB_STATE_LEN, changed, sizeof changed)), HUB_DONE);
     expect("empty image", hub_answer(hub_load(state, HUB_STATE_LEN, empty, sizeof empty)), HUB_DONE);
@@ -153,6 +202,7 @@ static void save_and_plug(void)
 
 int main(void)
 {
+    bad_images();
     load_and_read();
     save_and_plug();
     not_in_image();

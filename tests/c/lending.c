@@ -76,8 +76,8 @@ static uint64_t call(int which, uint8_t *state, size_t state_len, const uint8_t 
 static unsigned wanted(int which, int no_state, int no_octets, int no_reply)
 {
     static const unsigned refusals[ENTRIES] = { HUB_BAD_PACKET, HUB_DONE, HUB_DONE, HUB_DONE, HUB_BAD_ARGUMENT,
-                                                HUB_DONE, HUB_BAD_IMAGE, HUB_DONE, HUB_DONE, HUB_BAD_PACKET, HUB_BAD_ARGUMENT, HUB_INCOMPLETE,
-                                                HUB_BAD_IMAGE, HUB_BAD_IMAGE };
+                                                HUB_DONE, HUB_IMAGE_LENGTH, HUB_DONE, HUB_DONE, HUB_BAD_PACKET, HUB_BAD_ARGUMENT, HUB_INCOMPLETE,
+                                                HUB_IMAGE_LENGTH, HUB_IMAGE_LENGTH };
     if (no_state && which < UPGRADE)
         return HUB_BAD_STATE;
     if (no_reply && which != 6 && which != 10)
@@ -271,21 +271,25 @@ static void at_start(void)
     expect("save at the start", 0, hub_answer(call(5, state, HUB_STATE_LEN, NULL, 0, reply, HUB_IMAGE_MAX)) == HUB_DONE);
 }
 
-/* The first octets of an image, right before a page that may not be touched: no call looks behind them. */
+/*
+ * The first octets of an image, right before a page that may not be touched: no call looks behind them. With the length field right, and of fewer than five
+ * octets, the end is at fault, else the length field; the move from the other version tells that.
+ */
 static void cuts(const uint8_t *whole, size_t length)
 {
     uint8_t *state = place(3, HUB_STATE_LEN, 1), *reply = place(2, HUB_IMAGE_MAX, 1);
     for (size_t k = 0; k < length; k += k < 400 ? 1 : 37)
         for (int right = 0; right < 2; right++) {
+            const uint64_t cut = HUB_IMAGE_LENGTH + ((uint64_t)(right || k < 5 ? k : 0) << 32), other = k < 5 ? cut : HUB_IMAGE_VERSION + ((uint64_t)4 << 32);
             uint8_t *octets = place(1, k, 1);
             memcpy(octets, whole, k);
             if (right && k >= 4) {
                 octets[2] = (uint8_t)(k >> 8);
                 octets[3] = (uint8_t)k;
             }
-            expect("load of a cut image", k, call(6, state, HUB_STATE_LEN, octets, k, NULL, 0) == HUB_BAD_IMAGE);
-            expect("upgrade of a cut image", k, call(UPGRADE, NULL, 0, octets, k, reply, HUB_IMAGE_MAX) == HUB_BAD_IMAGE);
-            expect("downgrade of a cut image", k, call(DOWNGRADE, NULL, 0, octets, k, reply, HUB_IMAGE_MAX) == HUB_BAD_IMAGE);
+            expect("load of a cut image", k, call(6, state, HUB_STATE_LEN, octets, k, NULL, 0) == cut);
+            expect("upgrade of a cut image", k, call(UPGRADE, NULL, 0, octets, k, reply, HUB_IMAGE_MAX) == (whole[4] == 1 ? cut : other));
+            expect("downgrade of a cut image", k, call(DOWNGRADE, NULL, 0, octets, k, reply, HUB_IMAGE_MAX) == (whole[4] == 2 ? cut : other));
         }
 }
 

@@ -61,19 +61,26 @@ static int untouched(const struct lent *lent, size_t from)
     return from >= lent->length || memcmp(lent->octets + from, lent->before + from, lent->length - from) == 0;
 }
 
-/* Holds a result to the number and the octets it must be; the rest of the reply and the state must be untouched. */
-static void expect(const char *what, size_t with, uint64_t result, unsigned answer, const struct lent *state, const struct lent *reply,
-                   const uint8_t *octets, size_t count)
+/* Holds a result to the number, the second number and the octets it must be; the rest of the reply and the state must be untouched. */
+static void expect_extra(const char *what, size_t with, uint64_t result, unsigned answer, uint32_t extra, const struct lent *state,
+                         const struct lent *reply, const uint8_t *octets, size_t count)
 {
-    int right = hub_answer(result) == answer && hub_count(result) == count && hub_extra(result) == 0;
+    int right = hub_answer(result) == answer && hub_count(result) == count && hub_extra(result) == extra;
     right = right && untouched(state, 0) && (!reply || untouched(reply, count));
     right = right && (count == 0 || memcmp(reply->octets, octets, count) == 0);
     tried++;
     if (right)
         return;
     failures++;
-    printf("%s (%zu): answer %u and not %u, %zu octets and not %zu, or octets that are not as they must be\n", what, with, hub_answer(result), answer,
-           hub_count(result), count);
+    printf("%s (%zu): answer %u and not %u, %zu octets and not %zu, second number %lu and not %lu, or octets that are not as they must be\n", what, with,
+           hub_answer(result), answer, hub_count(result), count, (unsigned long)hub_extra(result), (unsigned long)extra);
+}
+
+/* The same of a result without a second number. */
+static void expect(const char *what, size_t with, uint64_t result, unsigned answer, const struct lent *state, const struct lent *reply,
+                   const uint8_t *octets, size_t count)
+{
+    expect_extra(what, with, result, answer, 0, state, reply, octets, count);
 }
 
 /*

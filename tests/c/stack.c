@@ -180,8 +180,8 @@ static void moves(size_t length)
     unsigned up = takes((entry)hub_upgrade, upgrade, HUB_DONE), down = takes((entry)hub_downgrade, downgrade, HUB_DONE);
     printf("hub_load %u\n", most(takes((entry)hub_load, load, HUB_DONE), takes((entry)hub_load, first, HUB_DONE)));
     old[hub_count(moved) - 1] = image[length - 1] = 0xFF;
-    printf("hub_upgrade %u\n", most(up, takes((entry)hub_upgrade, upgrade, HUB_BAD_IMAGE)));
-    printf("hub_downgrade %u\n", most(down, takes((entry)hub_downgrade, downgrade, HUB_BAD_IMAGE)));
+    printf("hub_upgrade %u\n", most(up, takes((entry)hub_upgrade, upgrade, HUB_IMAGE_RECORD)));
+    printf("hub_downgrade %u\n", most(down, takes((entry)hub_downgrade, downgrade, HUB_IMAGE_RECORD)));
 }
 
 /* Everything else. */

@@ -1,11 +1,11 @@
 #!/usr/bin/env bash
-# the bench's tool as a user calls it: images and states, packets in every form, images moved, each message and exit code; a part of it under valgrind
+# the bench's tool as a user calls it: images and states, packets in every form, images checked and moved, each message and exit code; in part under valgrind
 set -euo pipefail
 cd "$(dirname "$0")/../.."
 . tests/steps/tools.sh
 export LC_ALL=C
 get valgrind valgrind
-need gcc valgrind sed diff cmp head find stat
+need gcc valgrind sed awk diff cmp head tail dd find stat
 library
 out=target/tests/tools
 rm -rf "$out"
@@ -16,6 +16,8 @@ gcc $flags -O2 -fsanitize=undefined -fno-sanitize-recover=all tools/hub.c target
 wrapped="-Wl,--wrap=fsync -Wl,--wrap=rename -Wl,--wrap=fchown"
 gcc $flags $wrapped tools/hub.c tests/steps/35-calls.c target/staticlib/libhub.a -o "$out/hub.calls"
 gcc $flags tests/steps/35-tools.c target/staticlib/libhub.a -o "$out/files"
+gcc $flags -O2 -fsanitize=address,undefined -fno-sanitize-recover=all -Itools tests/steps/35-faults.c target/staticlib/libhub.a -o "$out/faults"
+gcc $flags examples/host.c target/staticlib/libhub.a -o "$out/host"
 example=$(sed -n '\|^    target/demo/hub why target/demo/shift.image | s///p' README.md)
 example_says=$(sed -n '\|^    target/demo/hub why | { n; s/^    //p; }' README.md)
 grep -qF "shift.image\" $example" demo
@@ -45,7 +47,8 @@ tries() { # CODE OUTPUT ERROR-OUTPUT ARGUMENTS
 }
 # What is said behind the name of an image, and of one of version 1.
 is_image="is an image: the answer is that of a hub just loaded from it, with power off, no advertising instances\nand nothing under way"
-is_image_1="is an image of version 1: the answer is that of a hub just loaded from it, with power off, BR/EDR on\nwhere it is supported, no advertising instances and nothing under way"
+is_image_1="is an image of version 1: the answer is that of a hub just loaded from it, with power off, BR/EDR on\n"
+is_image_1+="where it is supported, no advertising instances and nothing under way"
 # The same where the hub is an image, and where it is a state.
 image() { # CODE OUTPUT PACKET
     tries "$1" "$2\n" "hub: plough.image $is_image\n" why plough.image "${@:3}"
@@ -58,6 +61,21 @@ refused() { # STATUS TEXT PACKET
 wrong() { # MESSAGE ARGUMENTS
     tries 2 "" "hub: $1\n" "${@:2}"
 }
+# The fault that check finds.
+finds() { # FAULT IMAGE
+    tries 1 "$1\n" "" check "$2"
+}
+# Words so many times over.
+times() { # COUNT WORDS
+    local words
+    printf -v words '%*s' "$1" ""
+    printf '%s' "${words// /$2}"
+}
+# The fault of a length field that says another length, with its octets; that of a file without octets.
+says() { # LENGTH OCTETS-THERE FIELD
+    echo "71 at octet 0: length: the length field says $1, the file has $2 octets; 4 octets: $3"
+}
+no_octets="71 at octet 0: length: not whole: length field, 4 octets from octet 0 on, 0 there"
 
 # Packets in every form, to be taken.
 power="05 00 00 00 01 00 01"
@@ -139,6 +157,11 @@ head -c $((state - 1)) idle.state > cut.state
 { cat plough.image && zeros 1; } > over.image
 not="not octets in hexadecimal; a file is one argument, @ and its name"
 long_number=$(printf '05%.0s' {1..60000})
+# The first octets of a program are taken for a length field, and the fifth for version 2.
+noise_fault=$(says $((0x7F454C46)) 16014 "7F 45 4C 46")
+no_hub() { # FILE FAULT
+    wrong "$1: no state, which has $state octets, and no image that the hub takes: $2" why "$1" "$power"
+}
 bad_files() {
     wrong "HUB is empty, and not the name of a file" why "" "$power"
     wrong "missing: No such file or directory" why missing "$power"
@@ -147,14 +170,14 @@ bad_files() {
     wrong "directory: Is a directory" why idle.state @directory
     wrong "@ stands before the name of a file" why idle.state @
     wrong "noise: $state octets, as a state has, but not well formed" why noise "$power"
-    wrong "noise.image: 16014 octets, no image that the hub loads, and a state has $state" why noise.image "$power"
-    wrong "cut.state: $((state - 1)) octets, no image that the hub loads, and a state has $state" why cut.state "$power"
-    wrong "empty: 0 octets, no image that the hub loads, and a state has $state" why empty "$power"
-    wrong "over.image: $(wc -c < over.image) octets, no image that the hub loads, and a state has $state" why over.image "$power"
-    wrong "over.state: more than $state octets, so neither a state nor an image" why over.state "$power"
-    wrong "long: more than $state octets, so neither a state nor an image" why long "$power"
-    wrong "/dev/zero: more than $state octets, so neither a state nor an image" why /dev/zero "$power"
-    wrong "-: 0 octets, no image that the hub loads, and a state has $state" why - "$power"
+    no_hub noise.image "$noise_fault"
+    no_hub cut.state "$(says 0 $((state - 1)) "00 00 00 00")"
+    no_hub empty "$no_octets"
+    no_hub over.image "$(says 70 71 "00 00 00 46")"
+    no_hub over.state "$(says 0 $((state + 1)) "00 00 00 00")"
+    no_hub long "72 at octet 4: version: 0, not 1 or 2; 1 octet: 00"
+    no_hub - "$no_octets"
+    wrong "/dev/zero: more than 64 MiB, too long to be read" why /dev/zero "$power"
     wrong "five: 5 octets, so no packet: a header has 6" why idle.state @five
     wrong "PACKET: 5 octets, so no packet: a header has 6" why plough.image 05 00 00 00 01
     wrong "empty: 0 octets, so no packet: a header has 6" why idle.state @empty
@@ -189,24 +212,39 @@ good_moves empty two long largest
 bad_moves
 bad_images
 files_of_all_kinds
+. ../../../tests/steps/check.sh
+page_examples
+page_layout
+faulty_records
+repeats_and_counts
+faulty_fields
+spoilt_names
+cuts
+files_to_check
+no_memory
+host_refuses
+readme_examples
+./faults plough.image off.image two.1 two.2 long.1 long.2 largest.1 largest.2
 
 # The usage text: asked for, or after wrong use.
 ./hub help > usage
-for word in 'usage: hub why HUB PACKET' '       hub upgrade IN OUT' '       hub downgrade IN OUT'; do grep -qx "$word" usage; done
+for word in 'usage: hub why HUB PACKET' '       hub check IMAGE' '       hub upgrade IN OUT' '       hub downgrade IN OUT'; do grep -qx "$word" usage; done
 grep -q 'is for its owner alone to read and write (mode 0600)' usage
 usage=$(sed 's/\\/&&/g; s/%/%%/g; s/$/\\n/' usage | tr -d '\n')
-for arguments in help --help -h "why --help" "why -h" "help why" "upgrade -h" "downgrade --help" "help upgrade"; do tries 0 "$usage" "" $arguments; done
+for arguments in help --help -h "why --help" "why -h" "help why" "check -h" "upgrade -h" "downgrade --help" "help upgrade"; do
+    tries 0 "$usage" "" $arguments
+done
 tries 2 "" "hub: no word\n$usage"
 for arguments in wy "wy --help" WHY; do tries 2 "" "hub: no such word\n$usage" $arguments; done
-for arguments in why "why idle.state" "why help" upgrade "upgrade two.1" downgrade "downgrade two.2"; do
+for arguments in why "why idle.state" "why help" check upgrade "upgrade two.1" downgrade "downgrade two.2"; do
     tries 2 "" "hub: too few arguments\n$usage" $arguments
 done
-for arguments in "upgrade two.1 moved two.1" "downgrade two.2 moved -" "downgrade two.2 moved -h"; do
+for arguments in "check two.1 two.2" "upgrade two.1 moved two.1" "downgrade two.2 moved -" "downgrade two.2 moved -h"; do
     tries 2 "" "hub: too many arguments\n$usage" $arguments
 done
 echo "hub: $count calls, each with its exit code and what it says"
 
-# Under valgrind: what is wrong, a text of each form of place, the usage.
+# Under valgrind: what is wrong, a text of each form of place, the usage, an image moved, each fault of docs/IMAGE.md.
 tool="valgrind --quiet --error-exitcode=9 ./hub"
 count=0
 bad_files
@@ -217,4 +255,6 @@ tries 1 "$busy" "" why busy.state "$power"
 tries 0 "$usage" "" help
 good_moves largest
 bad_moves
+page_examples
+files_to_check
 echo "hub: $count calls under valgrind"

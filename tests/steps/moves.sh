@@ -86,21 +86,19 @@ good_moves() { # NAMES
 altered() { # IMAGE PLACE OCTET
     cp "$1" altered && octets "$3" | dd of=altered bs=1 seek="$2" conv=notrunc status=none
 }
-bad_image() { # WORD VERSION
-    refuses 2 "altered: $(wc -c < altered) octets, no image of version $2 that the hub takes" "$1" altered
-}
 # What is no image of the version that is moved from, or says what version 1 cannot.
 bad_moves() {
     refuses 1 "off.2: BR/EDR is off at controller 1, which version 1 cannot say; nothing is written" downgrade off.2
     refuses 1 "offs.2: BR/EDR is off at controller 0, 3, which version 1 cannot say; nothing is written" downgrade offs.2
     refuses 1 "off.image: BR/EDR is off at controller 0, which version 1 cannot say; nothing is written" downgrade off.image
-    refuses 2 "two.2: of version 2 already" upgrade two.2
-    refuses 2 "off.2: of version 2 already" upgrade off.2
-    refuses 2 "dirty.1: of version 1 already" downgrade dirty.1
-    refuses 2 "noise.image: 16014 octets, no image of version 1 that the hub takes" upgrade noise.image
-    refuses 2 "idle.state: more than 16014 octets, so no image" upgrade idle.state
-    refuses 2 "/dev/zero: more than 16014 octets, so no image" downgrade /dev/zero
-    refuses 2 "-: 0 octets, no image of version 1 that the hub takes" upgrade -
+    refuses 2 "two.2: of version 2 already: 72 at octet 4: version: 2, not 1; 1 octet: 02" upgrade two.2
+    refuses 2 "off.2: of version 2 already: 72 at octet 4: version: 2, not 1; 1 octet: 02" upgrade off.2
+    refuses 2 "dirty.1: of version 1 already: 72 at octet 4: version: 1, not 2; 1 octet: 01" downgrade dirty.1
+    refuses 2 "noise.image: no image of version 1 that the hub takes: 72 at octet 4: version: 2, not 1; 1 octet: 02" upgrade noise.image
+    refuses 2 "noise.image: no image of version 2 that the hub takes: $noise_fault" downgrade noise.image
+    refuses 2 "idle.state: no image of version 1 that the hub takes: $(says 0 "$state" "00 00 00 00")" upgrade idle.state
+    refuses 2 "/dev/zero: more than 64 MiB, too long to be read" downgrade /dev/zero
+    refuses 2 "-: no image of version 1 that the hub takes: $no_octets" upgrade -
     refuses 2 "missing: No such file or directory" upgrade missing
     refuses 2 "directory: Is a directory" downgrade directory
     refuses 2 "IN is empty, and not the name of a file" upgrade ""
@@ -108,17 +106,65 @@ bad_moves() {
     wrong "OUT is empty, and not the name of a file" downgrade - ""
     wrong "IN is empty, and not the name of a file" downgrade "" ""
 }
+
+# The word that moves from a version.
+from() { [ "$1" = 1 ] && echo upgrade || echo downgrade; }
+# The file "altered" is no image: the move says its fault, and so does check.
+bad_image() { # WORD VERSION FAULT
+    refuses 2 "altered: no image of version $2 that the hub takes: $3" "$1" altered
+    finds "$3" altered
+}
+# One octet of two.1 or two.2 is another.
+spoilt() { # VERSION PLACE OCTET FAULT
+    altered "two.$1" "$2" "$3"
+    bad_image "$(from "$1")" "$1" "$4"
+}
+# The same of the version octet, where a move takes one version and check both.
+other_version() { # VERSION OCTET
+    altered "two.$1" 4 "0$2"
+    refuses 2 "altered: no image of version $1 that the hub takes: 72 at octet 4: version: $2, not $1; 1 octet: 0$2" "$(from "$1")" altered
+    finds "72 at octet 4: version: $2, not 1 or 2; 1 octet: 0$2" altered
+}
 bad_images() {
     local place
-    # Cut, with something left over, of an unknown version, with another length; names that do not end, or end too soon.
-    for place in 0 4 5 6 30 $(($(wc -c < two.1) - 1)); do head -c "$place" two.1 > altered; bad_image upgrade 1; done
-    for place in 0 4 5 6 30 $(($(wc -c < two.2) - 1)); do head -c "$place" two.2 > altered; bad_image downgrade 2; done
-    { cat two.1 && zeros 1; } > altered; bad_image upgrade 1
-    { cat two.2 && zeros 1; } > altered; bad_image downgrade 2
-    for place in "0 01" "4 00" "4 03" "5 03" "6 04" "22 82" "23 80" "278 41"; do altered two.1 $place; bad_image upgrade 1; done
-    for place in "0 01" "4 00" "4 03" "5 01" "6 02" "22 82" "23 81" "30 09" "30 F9" "31 00"; do altered two.2 $place; bad_image downgrade 2; done
-    with_2 00 "02 01" "02 80" "" "" | image_of 02 01 > altered; bad_image downgrade 2
-    with_2 00 "02 81" "00 00" "" "" | image_of 02 01 > altered; bad_image downgrade 2
+    # Cut, or with something left over, and its length field as it was.
+    for place in 5 6 30 585; do head -c "$place" two.1 > altered; bad_image upgrade 1 "$(says 586 "$place" "00 00 02 4A")"; done
+    for place in 5 6 30 85; do head -c "$place" two.2 > altered; bad_image downgrade 2 "$(says 86 "$place" "00 00 00 56")"; done
+    for place in 1 2; do
+        head -c 0 "two.$place" > altered; bad_image "$(from "$place")" "$place" "$no_octets"
+        head -c 4 "two.$place" > altered; bad_image "$(from "$place")" "$place" "71 at octet 4: length: not whole: version, 1 octet from octet 4 on, 0 there"
+    done
+    { cat two.1 && zeros 1; } > altered; bad_image upgrade 1 "$(says 586 587 "00 00 02 4A")"
+    { cat two.2 && zeros 1; } > altered; bad_image downgrade 2 "$(says 86 87 "00 00 00 56")"
+    for place in 0 3; do other_version 1 "$place"; other_version 2 "$place"; done
+    spoilt 1 0 01 "$(says 16777802 586 "01 00 02 4A")"
+    spoilt 2 0 01 "$(says 16777302 86 "01 00 00 56")"
+    bad_fields_1
+    bad_fields_2
+}
+# Counts that say more or less than there is, an index, flags, names that do not end, or end too soon.
+bad_fields_1() {
+    local flags="74 at octet 20: field: flags of controller 0 (index 0):" name="field: name of controller 0 (index 0): its last octet is not zero"
+    spoilt 1 5 03 "71 at octet 586: length: not whole: index of controller 2, 1 octet from octet 586 on, 0 there"
+    spoilt 1 6 04 "73 at octet 6: controllers: index of controller 0: above 3; 1 octet: 04"
+    spoilt 1 22 82 "$flags a bit other than 1, 4 and 9 is set; 4 octets: 00 00 82 00"
+    spoilt 1 23 80 "$flags bit 7 is set, which version 1 does not have; 4 octets: 00 00 02 80"
+    spoilt 1 278 41 "74 at octet 30: $name; 249 octets: 54 68 65 20 70 6C 6F 75 67 68$(times 54 " 00") ..."
+    spoilt 1 289 41 "74 at octet 279: ${name/name/short name}; 11 octets: 50 6C 6F 75 67 68 00 00 00 00 41"
+}
+bad_fields_2() {
+    local flags="74 at octet 20: field: flags of controller 0 (index 0):" cut="71 at octet 86: length: not whole:"
+    spoilt 2 5 01 "71 at octet 54: length: left over at the end, 32 octets"
+    spoilt 2 6 02 "73 at octet 54: controllers: index of controller 1: not above that of the controller before, 2; 1 octet: 02"
+    spoilt 2 22 82 "$flags a bit other than 1, 4, 7 and 9 is set; 4 octets: 00 00 82 80"
+    spoilt 2 23 81 "$flags a bit other than 1, 4, 7 and 9 is set; 4 octets: 00 00 02 81"
+    spoilt 2 30 09 "$cut short name of controller 0 (index 0), 105 octets from octet 40 on, 46 there"
+    spoilt 2 30 F9 "$cut name of controller 0 (index 0), 250 octets from octet 30 on, 56 there"
+    spoilt 2 31 00 "74 at octet 30: field: name of controller 0 (index 0): a zero among its octets; 11 octets: 0A 00 ..."
+    with_2 00 "02 01" "02 80" "" "" | image_of 02 01 > altered
+    bad_image downgrade 2 "$flags bit 7 (BR/EDR) is set, and BR/EDR is not supported; 4 octets: 00 00 02 80"
+    with_2 00 "02 81" "00 00" "" "" | image_of 02 01 > altered
+    bad_image downgrade 2 "$flags neither bit 7 (BR/EDR) nor bit 9 (LE) is set; 4 octets: 00 00 00 00"
 }
 
 # The file that is written: it stays of its mode, and what a link leads to, and is no device; a directory that takes none; a disk that is full.

@@ -140,12 +140,14 @@ fn refused_key<R: Record>(names: &Names, keys: &[R], peer: fn(&R) -> &Peer, see:
 pub fn at_image(image: &[u8], see: &mut See) {
     match load(image) {
         Ok(state) => at_taken_image(&state, see),
-        Err(ImageFault::StaticAddress | ImageFault::Record(_, Reason::RandomAddress)) => {
-            if let Some(draft) = Draft::of(image) {
-                at_refused_image(&draft, see);
+        Err(diagnosis) => match diagnosis.fault {
+            ImageFault::StaticAddress | ImageFault::Record(_, Reason::RandomAddress) => {
+                if let Some(draft) = Draft::of(image) {
+                    at_refused_image(&draft, see);
+                }
             }
-        }
-        Err(_) => {}
+            _ => {}
+        },
     }
 }
 

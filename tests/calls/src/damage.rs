@@ -4,6 +4,7 @@ use crate::draft::{records, ControllerDraft, Draft, NameDraft, NamesDraft};
 use crate::pools;
 use crate::random::Random;
 use crate::records::{put_outside_address, repeat, spoil, KINDS};
+use crate::things::{parts, Thing};
 use reference::codes::{setting, NAME, SHORT_NAME, SLOTS};
 
 /// A rule that an image is made to break.
@@ -49,6 +50,8 @@ pub enum Damage {
     NameZero(usize),
     /// A length octet that is not the number of octets, in version 2.
     NameCount(usize),
+    /// A name of too many octets that are not there, in version 2.
+    NameCut(usize),
     /// A count octet of a table, the tables counted from 0.
     TableCount(usize),
     /// More records than slots.
@@ -59,12 +62,22 @@ pub enum Damage {
     KeyOutside(usize),
     /// Two records of a table.
     Repeat(usize),
+    /// Two records of a table, the later of which is wrong by itself too.
+    SpoiltRepeat(usize),
+    /// Three records of a table: a repeat before or behind one that is wrong by itself.
+    RepeatAndRecord(usize),
     /// Keys without support.
     KeysUnsupported(usize),
     /// Octets left over.
     Tail,
     /// Octets missing.
     Cut,
+    /// Octets missing that the length field counts.
+    CutAlone,
+    /// A record, and octets missing behind it in its table.
+    RecordAndCut,
+    /// Two of the length field, the version octet and the controller count.
+    Head,
 }
 
 /// The kinds of damage to what the versions do not have in common.
@@ -72,9 +85,15 @@ pub fn of_versions() -> Vec<Damage> {
     use Damage::*;
     let mut kinds = vec![OtherVersion, OldBrEdr, BrEdrOn, LowEnergyOff];
     for which in 0..2 {
-        kinds.extend([NameEnd(which), NameLength(which), NameZero(which), NameCount(which)]);
+        kinds.extend([NameEnd(which), NameLength(which), NameZero(which), NameCount(which), NameCut(which)]);
     }
     kinds
+}
+
+/// The kinds of damage to where an image ends, and to what tells it.
+pub fn of_ends() -> Vec<Damage> {
+    use Damage::*;
+    vec![Length, Head, Tail, Cut, Cut, Cut, CutAlone, RecordAndCut]
 }
 
 /// All kinds of damage.
@@ -83,8 +102,11 @@ pub fn all() -> Vec<Damage> {
     let mut kinds = of_versions();
     kinds.extend([Length, Version, ControllerCount, Index, PublicAddress, HighSettings, NoTransport]);
     kinds.extend([Flags, LowEnergyOn, StaticAddress, StaticOutside, StaticUnsupported, Tail, Cut]);
+    kinds.extend([CutAlone, RecordAndCut, Head]);
+    kinds.extend([1, 2, 5].map(SpoiltRepeat));
     for place in 0..KINDS.len() {
         kinds.extend([TableCount(place), TooManyRecords(place), Record(place), Repeat(place)]);
+        kinds.push(RepeatAndRecord(place));
     }
     kinds.extend([1, 2, 3].map(KeysUnsupported));
     kinds.extend([2, 3].map(KeyOutside));
@@ -96,7 +118,7 @@ pub fn damage(random: &mut Random, draft: &mut Draft, kind: Damage) -> bool {
     match kind {
         Damage::Length => draft.length = Some(wrong_length(random, draft.octets().len() as u32)),
         Damage::Version => draft.version = random.pick(&[0, 3, 0x10, 0x81, 0xFF]),
-        Damage::OtherVersion if draft.controllers.is_empty() => return false,
+        Damage::OtherVersion if draft.controllers.is_empty() || draft.version > 2 => return false,
         Damage::OtherVersion => draft.version = 3 - draft.version,
         Damage::ControllerCount => {
             let count = draft.controllers.len() as u8;
@@ -106,14 +128,79 @@ pub fn damage(random: &mut Random, draft: &mut Draft, kind: Damage) -> bool {
             let length = random.between(1, 5);
             draft.tail = random.octets(length);
         }
-        Damage::Cut => {
-            let most = if random.percent(50) { 2 } else { draft.octets().len() - 4 };
-            draft.cut = random.between(1, most);
+        Damage::Cut => draft.cut = missing(random, draft),
+        Damage::CutAlone => {
+            draft.length = Some(draft.octets().len() as u32);
+            draft.cut = missing(random, draft);
         }
+        Damage::Head => damage_head(random, draft),
         Damage::Index => return damage_index(random, draft),
+        Damage::NameCut(which) => return cut_name(random, draft, which),
+        Damage::RecordAndCut => return cut_table(random, draft),
         _ => return damage_controller(random, draft, kind),
     }
     true
+}
+
+/// How many octets are missing: one or two, so many that a part is not there, or a part that is no record not whole, or any number.
+fn missing(random: &mut Random, draft: &Draft) -> usize {
+    let octets = draft.octets();
+    let mut parts = parts(&octets);
+    parts.retain(|part| part.start > 4 && part.end <= octets.len());
+    if parts.is_empty() {
+        return 1;
+    }
+    match random.below(5) {
+        0 => random.between(1, 2),
+        1 => random.between(1, octets.len() - 4),
+        2 => octets.len() - random.pick(&parts).start,
+        _ => {
+            parts.retain(|part| !matches!(part.thing, Thing::Record(..)));
+            let part = random.pick(&parts);
+            octets.len() - random.between(part.start, part.end - 1)
+        }
+    }
+}
+
+/// Lets an image of version 2 end in a name whose length octet says more octets than there are, and than there can be.
+fn cut_name(random: &mut Random, draft: &mut Draft, which: usize) -> bool {
+    let Some(controller) = draft.controllers.last_mut() else { return false };
+    let NamesDraft::Used(names) = &mut controller.names else { return false };
+    names[which].octets.truncate(random.below(3));
+    names[which].length = Some(random.pick(&[249, 250, 255]));
+    controller.tables = Default::default();
+    true
+}
+
+/// Lets an image end in the last record of a table that has a wrong one before.
+fn cut_table(random: &mut Random, draft: &mut Draft) -> bool {
+    let Some(controller) = draft.controllers.last_mut() else { return false };
+    let several = |place: &usize| controller.tables[*place].records.len() >= 2;
+    let places: Vec<usize> = (0..KINDS.len()).filter(several).collect();
+    if places.is_empty() {
+        return false;
+    }
+    let place = random.pick(&places);
+    let behind = controller.tables[place + 1..].iter().map(|table| 1 + table.records.concat().len());
+    draft.cut = behind.sum::<usize>() + random.between(1, KINDS[place].length());
+    let records = &mut controller.tables[place].records;
+    let chosen = random.below(records.len() - 1);
+    spoil(random, KINDS[place], &mut records[chosen]);
+    true
+}
+
+/// Two faults before the first controller.
+fn damage_head(random: &mut Random, draft: &mut Draft) {
+    let good = random.below(3);
+    if good != 0 {
+        draft.length = Some(wrong_length(random, draft.octets().len() as u32));
+    }
+    if good != 1 {
+        draft.version = random.pick(&[0, 3, 0xFF]);
+    }
+    if good != 2 {
+        draft.count = Some(random.pick(&[5, 6, 0xFF]));
+    }
 }
 
 /// A length field that is not the number of octets.
@@ -155,6 +242,8 @@ fn damage_controller(random: &mut Random, draft: &mut Draft, kind: Damage) -> bo
         | Damage::Record(place)
         | Damage::KeyOutside(place)
         | Damage::Repeat(place)
+        | Damage::SpoiltRepeat(place)
+        | Damage::RepeatAndRecord(place)
         | Damage::KeysUnsupported(place) => damage_table(random, controller, kind, place),
         Damage::NameEnd(which)
         | Damage::NameLength(which)
@@ -182,7 +271,8 @@ fn fits(controller: &ControllerDraft, version: u8, kind: Damage) -> bool {
         Damage::StaticAddress | Damage::StaticOutside => controller.has_low_energy(),
         Damage::TooManyRecords(place) => controller.takes(KINDS[place]),
         Damage::Record(place) | Damage::KeyOutside(place) => !controller.tables[place].records.is_empty(),
-        Damage::Repeat(place) => controller.tables[place].records.len() >= 2,
+        Damage::Repeat(place) | Damage::SpoiltRepeat(place) => controller.tables[place].records.len() >= 2,
+        Damage::RepeatAndRecord(place) => controller.tables[place].records.len() >= 3,
         Damage::KeysUnsupported(place) => !controller.takes(KINDS[place]),
         _ => true,
     }
@@ -233,7 +323,7 @@ fn damage_used(random: &mut Random, name: &mut NameDraft, kind: Damage, end: usi
             name.octets[random.pick(&[0, place, length - 1])] = 0;
         }
         _ => {
-            let (more, less) = (length as u8 + 1, (length as u8).wrapping_sub(1));
+            let (more, less) = ((length as u8).wrapping_add(1), (length as u8).wrapping_sub(1));
             name.length = Some(random.pick(&[more, less, length as u8 ^ 0x80, end as u8 ^ 0x80]));
         }
     }
@@ -250,19 +340,41 @@ fn damage_table(random: &mut Random, controller: &mut ControllerDraft, kind: Dam
         }
         Damage::TooManyRecords(_) => table.records = records(random, KINDS[place], SLOTS + 1),
         Damage::Record(_) => {
-            let chosen = random.below(count);
+            let chosen = if random.percent(30) { count - 1 } else { random.below(count) };
             spoil(random, KINDS[place], &mut table.records[chosen]);
         }
         Damage::KeyOutside(_) => {
             let chosen = random.below(count);
             put_outside_address(random, &mut table.records[chosen]);
         }
-        Damage::Repeat(_) => {
-            repeat(random, KINDS[place], &mut table.records);
+        _ => damage_records(random, &mut table.records, kind, place),
+    }
+}
+
+/// Damages several records of a table, or puts some where there can be none.
+fn damage_records(random: &mut Random, list: &mut Vec<Vec<u8>>, kind: Damage, place: usize) {
+    let count = list.len();
+    match kind {
+        Damage::Repeat(_) => _ = repeat(random, KINDS[place], list),
+        Damage::RepeatAndRecord(_) => {
+            let first = random.below(count - 2);
+            let (again, wrong) = if random.percent(50) { (first + 1, first + 2) } else { (first + 2, first) };
+            list[again] = list[again - 1].clone();
+            spoil(random, KINDS[place], &mut list[wrong]);
+        }
+        Damage::SpoiltRepeat(_) => {
+            let later = random.between(1, count - 1);
+            list[later] = list[random.below(later)].clone();
+            list[later][if place == 2 { 9 } else { 7 }] = random.pick(&[0x20, 0xFF]);
         }
         _ => {
             let length = random.between(1, 3);
-            table.records = records(random, KINDS[place], length);
+            *list = records(random, KINDS[place], length);
+            match random.below(4) {
+                0 => spoil(random, KINDS[place], &mut list[length - 1]),
+                1 => _ = repeat(random, KINDS[place], list),
+                _ => {}
+            }
         }
     }
 }

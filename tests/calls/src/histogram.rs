@@ -2,6 +2,7 @@
 //! and events, and how often.
 
 use crate::addresses;
+use crate::diagnoses;
 use crate::lists::{Lists, IMAGES};
 use crate::look_ups::{LookUps, LOOK_UPS};
 use crate::lumps;
@@ -176,6 +177,8 @@ impl Histogram {
         };
         addresses::at_image(image, &mut see);
         moves::at_image(image, room, &mut see);
+        diagnoses::at_image(image, &mut see);
+        diagnoses::at_moves(image, room, &mut see);
     }
 
     /// Counts a call with its reply.

@@ -1,6 +1,6 @@
 //! Random images to load and to move, and rooms for images.
 
-use crate::damage::{all, damage, of_versions};
+use crate::damage::{all, damage, of_ends, of_versions};
 use crate::draft::Draft;
 use crate::random::Random;
 use reference::codes::{answer, IMAGE_ROOM};
@@ -17,21 +17,28 @@ pub fn room(random: &mut Random) -> usize {
 }
 
 /// An image of either version, seldom valid: a saved one or one from scratch,
-/// damaged in one place or in one octet.
+/// damaged in one place, now and then in two, or in one octet.
 pub fn image(random: &mut Random, saved: &[u8]) -> Vec<u8> {
     let mut draft = if random.percent(40) { of_saved(random, saved) } else { Draft::random(random) };
     match random.below(8) {
         0 | 1 => draft.octets(),
         2 => one_octet(random, draft.octets()),
         3 if random.percent(50) => {
-            let length = random.below(40);
+            let most = random.pick(&[6, 40]);
+            let length = random.below(most);
             random.octets(length)
         }
         _ => {
-            let kinds = if random.percent(30) { of_versions() } else { all() };
+            let kinds = match random.below(10) {
+                0..=2 => of_versions(),
+                3 | 4 => of_ends(),
+                _ => all(),
+            };
+            let mut left = if random.percent(20) { 2 } else { 1 };
             for _ in 0..20 {
                 let kind = random.pick(&kinds);
-                if damage(random, &mut draft, kind) {
+                left -= usize::from(damage(random, &mut draft, kind));
+                if left == 0 {
                     break;
                 }
             }

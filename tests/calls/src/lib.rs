@@ -7,6 +7,7 @@ pub mod addresses;
 pub mod br_edr;
 pub mod coverage;
 pub mod damage;
+pub mod diagnoses;
 pub mod draft;
 pub mod generator;
 pub mod histogram;
@@ -25,6 +26,7 @@ pub mod random;
 pub mod records;
 pub mod situations;
 pub mod spoiling;
+pub mod things;
 pub mod walks;
 pub mod whys;
 

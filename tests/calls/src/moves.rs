@@ -5,7 +5,7 @@ use crate::situations::See;
 use reference::codes::{answer, setting, IMAGE_ROOM, NAME, SHORT_NAME};
 use reference::controller::{Controller, LocalName};
 use reference::image::load;
-use reference::reason::ImageFault;
+use reference::reason::{Diagnosis, ImageFault};
 use reference::{downgrade, upgrade, Hub};
 
 /// Names of no octets, of some and of as many as there can be: name and short name, in version 1 and in version 2.
@@ -51,7 +51,7 @@ pub fn at_image(image: &[u8], room: usize, see: &mut See) {
                 at_br_edr(version, controller, see);
             }
         }
-        Err(fault) => {
+        Err(Diagnosis { fault, .. }) => {
             see("version 1 image, refused", version == 1);
             see("version 2 image, refused", version == 2);
             see("image of another version, refused", fault == ImageFault::Version);
@@ -151,9 +151,9 @@ fn at_upgrade(image: &[u8], room: usize, see: &mut See) {
     let roomy = upgrade(image, IMAGE_ROOM);
     see("upgrade answered 0", moved.answer == answer::DONE);
     see("upgrade answered 4", moved.answer == answer::ROOM && roomy.answer == answer::DONE);
-    see("upgrade answered 4 before 7", moved.answer == answer::ROOM && roomy.answer == answer::IMAGE);
-    see("upgrade answered 7", moved.answer == answer::IMAGE);
-    see("upgrade answered 7 for version 2", moved.answer == answer::IMAGE && load(image).is_ok());
+    let bad = answer::is_bad_image(roomy.answer);
+    see("upgrade answered 4 before 71 to 77", moved.answer == answer::ROOM && bad);
+    see("upgrade answered 72 for version 2", moved.answer == answer::IMAGE_VERSION && load(image).is_ok());
     let back = downgrade(&moved.octets, IMAGE_ROOM).octets;
     see("upgrade and back, the same octets", back == image);
     see("upgrade and back, other octets behind a name", moved.answer == answer::DONE && back != image);
@@ -165,16 +165,15 @@ fn at_downgrade(image: &[u8], room: usize, see: &mut See) {
     let roomy = downgrade(image, IMAGE_ROOM).answer;
     see("downgrade answered 0", moved == answer::DONE);
     see("downgrade answered 4", moved == answer::ROOM && roomy == answer::DONE);
-    see("downgrade answered 4 before 7", moved == answer::ROOM && roomy == answer::IMAGE);
+    see("downgrade answered 4 before 71 to 77", moved == answer::ROOM && answer::is_bad_image(roomy));
     see("downgrade answered 4 before 8", moved == answer::ROOM && roomy == answer::NOT_IN_IMAGE);
-    see("downgrade answered 7", moved == answer::IMAGE);
-    see("downgrade answered 7 for version 1", moved == answer::IMAGE && load(image).is_ok());
+    see("downgrade answered 72 for version 1", moved == answer::IMAGE_VERSION && load(image).is_ok());
     let Some(draft) = Draft::of(image).filter(|draft| draft.version == 2) else { return };
     let off =
         |controller: &ControllerDraft| controller.has_br_edr() && controller.flags & setting::BR_EDR == 0;
     let off: Vec<bool> = draft.controllers.iter().map(off).collect();
     let (count, several) = (off.iter().filter(|off| **off).count(), off.len() > 1);
-    see("downgrade answered 7 before 8", moved == answer::IMAGE && count > 0);
+    see("downgrade answered 71 to 77 before 8", answer::is_bad_image(moved) && count > 0);
     let beyond = moved == answer::NOT_IN_IMAGE;
     see("downgrade answered 8", beyond);
     see("downgrade answered 8 for the first alone", beyond && several && count == 1 && off[0]);
@@ -196,7 +195,7 @@ pub fn at_save(hub: &Hub, see: &mut See) {
 }
 
 /// What a run should come to beside the lengths and ends of names.
-const EXPECTED: [&str; 43] = [
+const EXPECTED: [&str; 41] = [
     "version 1 image, loaded",
     "version 2 image, loaded",
     "version 1 image, refused",
@@ -219,18 +218,16 @@ const EXPECTED: [&str; 43] = [
     "version 2 with LE off and no other, refused",
     "upgrade answered 0",
     "upgrade answered 4",
-    "upgrade answered 4 before 7",
-    "upgrade answered 7",
-    "upgrade answered 7 for version 2",
+    "upgrade answered 4 before 71 to 77",
+    "upgrade answered 72 for version 2",
     "upgrade and back, the same octets",
     "upgrade and back, other octets behind a name",
     "downgrade answered 0",
     "downgrade answered 4",
-    "downgrade answered 4 before 7",
+    "downgrade answered 4 before 71 to 77",
     "downgrade answered 4 before 8",
-    "downgrade answered 7",
-    "downgrade answered 7 for version 1",
-    "downgrade answered 7 before 8",
+    "downgrade answered 72 for version 1",
+    "downgrade answered 71 to 77 before 8",
     "downgrade answered 8",
     "downgrade answered 8 for the first alone",
     "downgrade answered 8 for the last alone",

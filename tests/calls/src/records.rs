@@ -148,7 +148,8 @@ pub fn repeat(random: &mut Random, kind: Kind, records: &mut [Vec<u8>]) -> bool 
     if records.len() < 2 || records.iter().any(|record| record.len() != kind.length()) {
         return false;
     }
-    let later = random.between(1, records.len() - 1);
+    let last = records.len() - 1;
+    let later = if random.percent(35) { last } else { random.between(1, last) };
     let earlier = random.below(later);
     let name = kind.name_length();
     let (head, tail) = records.split_at_mut(later);

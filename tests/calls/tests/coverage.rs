@@ -2,7 +2,7 @@
 
 use calls::coverage::{expected_orders, expected_refusals};
 use calls::histogram::Histogram;
-use calls::{addresses, br_edr, lumps, moves, on_air, situations, walks, whys};
+use calls::{addresses, br_edr, diagnoses, lumps, moves, on_air, situations, walks, whys};
 
 #[test]
 fn every_refusal_and_situation_is_reached() {
@@ -22,7 +22,8 @@ fn every_refusal_and_situation_is_reached() {
         }
         let situations = situations::EXPECTED.into_iter().chain(on_air::EXPECTED);
         let situations = situations.chain(addresses::expected()).chain(br_edr::expected());
-        let situations = situations.chain(moves::expected()).chain(lumps::expected());
+        let situations =
+            situations.chain(moves::expected()).chain(diagnoses::expected()).chain(lumps::expected());
         for situation in situations {
             assert!(run.situations.contains_key(situation), "seed {seed}: {situation} is missing");
         }

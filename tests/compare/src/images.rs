@@ -11,25 +11,36 @@ use reference::{Call, Hub, Reply};
 /// What an image came to.
 #[derive(Clone, Copy, PartialEq, Eq, Debug)]
 pub struct Tried {
-    /// Whether it loads.
-    pub loaded: bool,
+    /// The answer of the load.
+    pub load: u8,
     /// The answer of the move to version 2.
     pub upgrade: u8,
     /// The answer of the move back to version 1.
     pub downgrade: u8,
 }
 
-/// Loads an image on both and compares the answers and, if it is taken, what it makes; tells whether it is.
-pub fn image_agrees<T: Target>(lent: &mut Lent<T>, hub: &mut Hub, image: &[u8]) -> Result<bool, Difference> {
-    let expected = hub.load(image).answer;
-    let found = lent.load(image)?;
-    if expected != found {
-        return Err(format!("load answers {found}, expected {expected}"));
+impl Tried {
+    /// Whether it loads.
+    pub fn loads(&self) -> bool {
+        self.load == answer::DONE
     }
-    if found == answer::DONE {
+}
+
+/// Loads an image on both and compares what they answer, with the offset of what is at fault, and what it makes if it is taken; gives the
+/// answer.
+fn load_agrees<T: Target>(lent: &mut Lent<T>, hub: &mut Hub, image: &[u8]) -> Result<u8, Difference> {
+    let expected = hub.load(image);
+    let found = lent.load(image)?;
+    same("what load answers differs", &expected, &found)?;
+    if found.answer == answer::DONE {
         same_state("the state of an image", &encode(hub), lent.state())?;
     }
-    Ok(found == answer::DONE)
+    Ok(found.answer)
+}
+
+/// The same; tells whether the image is taken.
+pub fn image_agrees<T: Target>(lent: &mut Lent<T>, hub: &mut Hub, image: &[u8]) -> Result<bool, Difference> {
+    Ok(load_agrees(lent, hub, image)? == answer::DONE)
 }
 
 /// Compares the images of both, and what they are moved to.
@@ -55,14 +66,22 @@ pub fn move_agrees<T: Target>(
     Ok(found)
 }
 
+/// Loads an image on both and moves it both ways with room enough.
+pub fn refusal_agrees<T: Target>(lent: &mut Lent<T>, image: &[u8]) -> Result<Tried, Difference> {
+    let load = load_agrees(lent, &mut Hub::new(), image)?;
+    let upgrade = move_agrees(lent, Move::Upgrade, image, IMAGE_ROOM)?.answer;
+    let downgrade = move_agrees(lent, Move::Downgrade, image, IMAGE_ROOM)?.answer;
+    Ok(Tried { load, upgrade, downgrade })
+}
+
 /// Loads an image on both, saves it if it is taken, and moves it both ways with this room.
 pub fn tried_agrees<T: Target>(lent: &mut Lent<T>, image: &[u8], room: usize) -> Result<Tried, Difference> {
     let mut hub = Hub::new();
-    let loaded = image_agrees(lent, &mut hub, image)?;
-    if loaded {
+    let load = load_agrees(lent, &mut hub, image)?;
+    if load == answer::DONE {
         images_agree(lent, &hub.save(IMAGE_ROOM))?;
     }
     let upgrade = move_agrees(lent, Move::Upgrade, image, room)?.answer;
     let downgrade = move_agrees(lent, Move::Downgrade, image, room)?.answer;
-    Ok(Tried { loaded, upgrade, downgrade })
+    Ok(Tried { load, upgrade, downgrade })
 }

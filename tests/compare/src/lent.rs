@@ -27,6 +27,14 @@ pub struct Lent<T: Target> {
     fill: u8,
 }
 
+/// The number that the load or move of an image gives, without the offset that stands in it where the image is refused, and that offset.
+fn without_offset(number: u64) -> (u64, usize) {
+    match answer::is_bad_image((number & 0xFF) as u8) {
+        true => (number & 0xFFFF_FFFF, (number >> 32) as usize),
+        false => (number, 0),
+    }
+}
+
 /// Answer and count out of the number that a call gives.
 fn parts(number: u64) -> Result<(u8, usize), Difference> {
     if number >> 32 != 0 {
@@ -170,25 +178,25 @@ impl<T: Target> Lent<T> {
     }
 
     /// A load into the buffer, whatever it holds.
-    pub fn load(&mut self, image: &[u8]) -> Result<u8, Difference> {
+    pub fn load(&mut self, image: &[u8]) -> Result<Reply, Difference> {
         self.load_with_length(image, T::STATE_LEN)
     }
 
     /// The same with a state buffer of another length.
-    pub fn load_with_length(&mut self, image: &[u8], length: usize) -> Result<u8, Difference> {
+    pub fn load_with_length(&mut self, image: &[u8], length: usize) -> Result<Reply, Difference> {
         self.before.copy_from_slice(&self.state);
-        let number = self.target.load(&mut self.state[..length], image);
+        let (number, offset) = without_offset(self.target.load(&mut self.state[..length], image));
         let (answer, count) = parts(number)?;
         need(count == 0, || format!("load counts {count} octets"))?;
         self.check_state(answer, length)?;
-        Ok(answer)
+        Ok(Reply { offset, ..Reply::bare(answer) })
     }
 
     /// Moves an image to the other version, with this room for it.
     pub fn moved(&mut self, way: Move, image: &[u8], room: usize) -> Result<Reply, Difference> {
         self.before_call(room);
-        let number = self.target.moved(way, image, &mut self.reply[..room]);
-        self.after_question(number, room, T::STATE_LEN)
+        let (number, offset) = without_offset(self.target.moved(way, image, &mut self.reply[..room]));
+        Ok(Reply { offset, ..self.after_question(number, room, T::STATE_LEN)? })
     }
 
     /// Octets behind the state stay, and after a refusal all of them.

@@ -10,6 +10,11 @@ pub mod br_edr;
 #[cfg(test)]
 mod br_edr_tests;
 pub mod broken;
+pub mod diagnosis;
+#[cfg(test)]
+mod diagnosis_slips;
+#[cfg(test)]
+mod diagnosis_tests;
 #[cfg(test)]
 mod example_tests;
 pub mod identities;
@@ -43,6 +48,8 @@ pub mod why;
 mod why_tests;
 #[cfg(test)]
 mod wrong_br_edr;
+#[cfg(test)]
+mod wrong_diagnosis;
 #[cfg(test)]
 mod wrong_images;
 #[cfg(test)]

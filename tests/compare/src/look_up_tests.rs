@@ -12,7 +12,7 @@ use calls::look_ups::LOOK_UPS;
 use calls::Random;
 use reference::codes::command as code;
 use reference::packet::frame;
-use reference::{Call, Hub};
+use reference::{Call, Hub, Reply};
 
 /// The failure that a slip leads to.
 fn failure(slip: Slip) -> Failure {
@@ -65,7 +65,7 @@ fn the_tables_stand_one_behind_the_other() {
 /// A target and the reference hub with a controller at 2 and devices in slots 0 and 2 of its last table.
 fn with_a_gap() -> (Lent<Mirror>, Hub) {
     let (mut lent, mut hub) = (Lent::new(Mirror::default()), Hub::new());
-    assert_eq!(lent.load(&calls::lists::EMPTY), Ok(0));
+    assert_eq!(lent.load(&calls::lists::EMPTY), Ok(Reply::bare(0)));
     let room = 1024;
     let device = |number: u8, length: usize| [&[number, 2, 3, 4, 5, 6, 1, 2][..length]].concat();
     let command = |code, parameters: Vec<u8>| Call::Command { packet: frame(code, 2, &parameters), room };

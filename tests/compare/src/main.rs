@@ -4,6 +4,7 @@ mod library;
 
 use compare::addresses::addresses_agree;
 use compare::br_edr::br_edr_agrees;
+use compare::diagnosis::diagnosis_agrees;
 use compare::run::{Comparison, Failure};
 use compare::shrink::shrink;
 use compare::stream::stream_agrees;
@@ -83,6 +84,7 @@ fn main() -> ExitCode {
     let sweeps = sweeps.and_then(|first| Ok(format!("{first}\n{}", br_edr_agrees(comparison.lent())?)));
     let sweeps = sweeps.and_then(|first| Ok(format!("{first}\n{}", stream_agrees(comparison.lent())?)));
     let sweeps = sweeps.and_then(|first| Ok(format!("{first}\n{}", versions_agree(comparison.lent())?)));
+    let sweeps = sweeps.and_then(|first| Ok(format!("{first}\n{}", diagnosis_agrees(comparison.lent())?)));
     match sweeps {
         Ok(sweeps) => println!("{sweeps}"),
         Err(difference) => {

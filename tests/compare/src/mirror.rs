@@ -28,7 +28,8 @@ pub struct Mirror {
 /// The number that a C host gets for a reply, its octets written.
 pub fn number(reply: &Reply, buffer: &mut [u8]) -> u64 {
     buffer[..reply.octets.len()].copy_from_slice(&reply.octets);
-    u64::from(reply.answer) + 256 * reply.octets.len() as u64 + ((reply.taken as u64) << 32)
+    let second = (reply.taken + reply.offset) as u64;
+    u64::from(reply.answer) + 256 * reply.octets.len() as u64 + (second << 32)
 }
 
 /// What a move of an image gives.
@@ -153,7 +154,7 @@ impl Target for Mirror {
         if given.answer == answer::DONE {
             self.write(state, hub);
         }
-        given.answer.into()
+        number(&given, &mut [])
     }
 
     fn moved(&self, way: Move, image: &[u8], out: &mut [u8]) -> u64 {

@@ -19,9 +19,11 @@ fn difference(gives: &Reply, came: &Reply) -> Option<String> {
     let place = gives.octets.iter().zip(&came.octets).position(|(a, b)| a != b);
     let place = place.unwrap_or(gives.octets.len().min(came.octets.len()));
     Some(format!(
-        "answer {} for {}, {} taken for {}, octets differ from place {place} on\n    came:{}\n    asked for:{}",
+        "answer {} at {} for {} at {}, {} taken for {}, octets differ from place {place} on\n    came:{}\n    asked for:{}",
         came.answer,
+        came.offset,
         gives.answer,
+        gives.offset,
         came.taken,
         gives.taken,
         shown(&came.octets),
@@ -37,7 +39,7 @@ pub fn play<T: Target>(example: &Example, target: T) -> Result<usize, String> {
     for line in &example.lines {
         let (came, extra) = match &line.step {
             Step::Call(call) => (lent.call(call)?, 0),
-            Step::Load(image) => (Reply::bare(lent.load(image)?), 0),
+            Step::Load(image) => (lent.load(image)?, 0),
             Step::Move { way, image, room } => (lent.moved(*way, image, *room)?, 0),
             Step::OnAir { index, room } => (lent.on_air(*index, *room, T::STATE_LEN)?, 0),
             Step::Why { packet, room } => lent.why(packet, *room, T::STATE_LEN)?,

@@ -78,8 +78,12 @@ pub struct Failure {
 /// A reply in words, long ones cut.
 fn shown(reply: &Reply) -> String {
     let octets: Vec<String> = reply.octets.iter().take(80).map(|octet| format!("{octet:02X}")).collect();
-    let Reply { answer, taken, .. } = reply;
-    format!("answer {answer}, {taken} octets taken, {} octets: {}", reply.octets.len(), octets.join(" "))
+    let Reply { answer, taken, offset, .. } = reply;
+    let count = reply.octets.len();
+    format!(
+        "answer {answer}, {taken} octets taken, at fault at {offset}, {count} octets: {}",
+        octets.join(" ")
+    )
 }
 
 /// An error that tells both replies, unless they are the same.
@@ -265,9 +269,9 @@ impl<T: Target> Comparison<T> {
         why_of_no_state(&mut self.lent)?;
         look_up_of_no_state(&mut self.lent)?;
         for length in [0, T::STATE_LEN - 1, T::STATE_LEN + 1] {
-            let found = self.lent.load_with_length(&calls::lists::EMPTY, length)?;
-            if found != answer::STATE {
-                return Err(format!("load into a state of {length} answers {found}"));
+            for image in [&calls::lists::EMPTY[..], &[0, 0, 0, 6, 3, 0]] {
+                let found = self.lent.load_with_length(image, length)?;
+                same(&format!("load into a state of {length}"), &Reply::bare(answer::STATE), &found)?;
             }
         }
         Ok(())

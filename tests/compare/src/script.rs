@@ -97,7 +97,7 @@ pub fn examples(text: &str) -> Vec<Example> {
 }
 
 /// What a call gives, with its second number: the status and the text that a question tells, the slot that a look-up finds and the slots
-/// that it walks. The octets that a lump takes stand in its reply.
+/// that it walks. The octets that a lump takes stand in its reply, and so does the offset of what is at fault in an image.
 fn result(words: &[&str]) -> (Reply, u64) {
     match words[0] {
         "tells" => (Reply::new(answer::DONE, words[2..].join(" ").into_bytes()), value(words[1])),
@@ -109,7 +109,16 @@ fn result(words: &[&str]) -> (Reply, u64) {
             let slot = if words[1] == "none" { SLOTS as u64 } else { value(words[1]) };
             (Reply::bare(answer::DONE), slot + 256 * value(words[2]))
         }
-        _ => (Reply::new(value(words[1]) as u8, octets(&words[2..])), 0),
+        _ => (given(value(words[1]) as u8, &words[2..]), 0),
+    }
+}
+
+/// An answer with its octets, or the refusal of an image with the offset, which has to be told.
+fn given(given: u8, words: &[&str]) -> Reply {
+    match (answer::is_bad_image(given), words) {
+        (true, ["at", offset]) => Reply { offset: value(offset) as usize, ..Reply::bare(given) },
+        (true, _) => panic!("answer {given} without an offset"),
+        (false, _) => Reply::new(given, octets(words)),
     }
 }
 

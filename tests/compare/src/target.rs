@@ -12,7 +12,7 @@ pub enum Move {
 }
 
 /// The calls of a hub whose state is a lent buffer. Each gives one number:
-/// answer + 256 x count + 2^32 x a second number, which lumps, `why` and `look_up` alone give.
+/// answer + 256 x count + 2^32 x a second number, which lumps, `why`, `look_up` and the refusal of an image alone give.
 pub trait Target {
     /// The length of a state buffer.
     const STATE_LEN: usize;

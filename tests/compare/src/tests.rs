@@ -148,7 +148,7 @@ impl Target for Faulty {
     fn load(&mut self, state: &mut [u8], image: &[u8]) -> u64 {
         let number = self.inner.load(state, image);
         match self.fault {
-            Fault::Image if number == 7 && image.get(4).is_some_and(|version| *version > 2) => 0,
+            Fault::Image if number & 0xFF == 72 && image.get(4).is_some_and(|version| *version > 2) => 0,
             _ => number,
         }
     }

@@ -55,7 +55,7 @@ fn whole(used: usize, all: usize, dirty: bool) -> Vec<u8> {
 }
 
 /// Names of these lengths as a version has them.
-fn names(version: u8, [name, short_name]: [usize; 2], dirty: bool) -> NamesDraft {
+pub fn names(version: u8, [name, short_name]: [usize; 2], dirty: bool) -> NamesDraft {
     let (name, short_name) = (whole(name, NAME, dirty), whole(short_name, SHORT_NAME, dirty));
     if version == 1 {
         return NamesDraft::Whole([name, short_name].concat());
@@ -65,7 +65,7 @@ fn names(version: u8, [name, short_name]: [usize; 2], dirty: bool) -> NamesDraft
 }
 
 /// A dual-mode controller with BR/EDR and LE on, short names and a few records.
-fn controller(version: u8, index: u8, count: usize) -> ControllerDraft {
+pub fn controller(version: u8, index: u8, count: usize) -> ControllerDraft {
     let kept = setting::CONNECTABLE | setting::LOW_ENERGY;
     let mut random = Random::new(index.into());
     let table = |kind| TableDraft { count: None, records: records(&mut random, kind, count) };
@@ -83,7 +83,7 @@ fn controller(version: u8, index: u8, count: usize) -> ControllerDraft {
 }
 
 /// An image of these controllers.
-fn draft(version: u8, controllers: Vec<ControllerDraft>) -> Draft {
+pub fn draft(version: u8, controllers: Vec<ControllerDraft>) -> Draft {
     Draft { length: None, version, count: None, controllers, tail: vec![], cut: 0 }
 }
 
@@ -96,9 +96,9 @@ fn small(version: u8) -> Draft {
 fn tried<T: Target>(lent: &mut Lent<T>, image: &[u8], sweep: &mut Sweep) -> Result<Tried, Difference> {
     let tried = tried_agrees(lent, image, IMAGE_ROOM)?;
     let version = image.get(4).copied().unwrap_or(0);
-    sweep.first += usize::from(tried.loaded && version == 1);
-    sweep.second += usize::from(tried.loaded && version == 2);
-    sweep.refused += usize::from(!tried.loaded);
+    sweep.first += usize::from(tried.loads() && version == 1);
+    sweep.second += usize::from(tried.loads() && version == 2);
+    sweep.refused += usize::from(!tried.loads());
     for given in [tried.upgrade, tried.downgrade] {
         sweep.moved += usize::from(given == answer::DONE);
         sweep.beyond += usize::from(given == answer::NOT_IN_IMAGE);

@@ -8,7 +8,7 @@ use crate::why::{why_agrees, why_agrees_in_any_room, why_of_no_state};
 use crate::wrong_why::{Slip, WrongWhy, SLIPS};
 use reference::codes::command as code;
 use reference::packet::frame;
-use reference::{Call, Hub};
+use reference::{Call, Hub, Reply};
 
 /// The failure that a slip leads to.
 fn failure(slip: Slip) -> Failure {
@@ -54,7 +54,7 @@ fn a_state_that_is_none_is_answered_before_all_else() {
 fn the_state_is_the_same_after_the_question() {
     let mut lent = Lent::new(Mirror::default());
     let mut hub = Hub::new();
-    assert_eq!(lent.load(&calls::lists::EMPTY), Ok(0));
+    assert_eq!(lent.load(&calls::lists::EMPTY), Ok(Reply::bare(0)));
     let room = 1024;
     let plug =
         Call::Plug { index: 2, address: vec![1; 6], version: 6, manufacturer: 15, supported: 0x0281, room };

@@ -6,7 +6,7 @@ use calls::draft::{ControllerDraft, Draft, NameDraft, NamesDraft};
 use reference::codes::{answer, setting, IMAGE_ROOM, NAME, SHORT_NAME};
 use reference::controller::{Controller, LocalName};
 use reference::image::{self, load, read, Version};
-use reference::reason::ImageFault;
+use reference::reason::{Diagnosis, ImageFault};
 use reference::state::State;
 use reference::{Call, Hub, Reply};
 
@@ -69,9 +69,9 @@ pub enum Slip {
     OffRefused,
     /// Another flag is taken in version 2.
     OtherFlagTaken,
-    /// A downgrade answers 8 before 7.
+    /// A downgrade answers 8 before 71 to 77.
     BeyondFirst,
-    /// A move answers 7 before 4.
+    /// A move answers 71 to 77 before 4.
     ImageFirst,
     /// A downgrade answers 8 before 4.
     BeyondBeforeRoom,
@@ -251,11 +251,11 @@ impl WrongImages {
     }
 
     /// Whether it judges an image otherwise than the right one, of which it is known whether that takes it; then what it says.
-    fn judged(&self, image: &[u8], right: Result<(), ImageFault>) -> Option<bool> {
+    fn judged(&self, image: &[u8], right: Result<(), Diagnosis>) -> Option<bool> {
         let draft = Draft::of(image)?;
         match right {
             Ok(()) => self.refuses(&draft).then_some(false),
-            Err(fault) => self.takes(&draft, fault).then_some(true),
+            Err(diagnosis) => self.takes(&draft, diagnosis.fault).then_some(true),
         }
     }
 
@@ -326,17 +326,20 @@ impl WrongImages {
     /// What a move gives, room enough or not.
     fn given(&self, way: Move, image: &[u8], room: usize) -> Reply {
         let (right, roomy) = (moved(way, image, room), moved(way, image, IMAGE_ROOM));
-        let any_off = || Draft::of(image).is_some_and(|draft| draft.controllers.iter().any(is_off));
+        let any_off = || {
+            let draft = Draft::of(image).filter(|draft| draft.version == 2);
+            draft.is_some_and(|draft| draft.controllers.iter().any(is_off))
+        };
         let back = way == Move::Downgrade;
         match (self.slip, right.answer) {
-            (Slip::ImageFirst, answer::ROOM) if roomy.answer == answer::IMAGE => roomy,
+            (Slip::ImageFirst, answer::ROOM) if answer::is_bad_image(roomy.answer) => roomy,
             (Slip::BeyondBeforeRoom, answer::ROOM) if roomy.answer == answer::NOT_IN_IMAGE => roomy,
             (Slip::OwnRoom, answer::ROOM) if room >= roomy.octets.len().max(6) => roomy,
             (Slip::MoreRoom, answer::DONE) if room == IMAGE_ROOM => Reply::bare(answer::ROOM),
-            (Slip::BeyondFirst, answer::IMAGE) if back && image.get(4) == Some(&2) && any_off() => {
+            (Slip::BeyondFirst, given) if answer::is_bad_image(given) && back && any_off() => {
                 Reply::bare(answer::NOT_IN_IMAGE)
             }
-            (Slip::RefusalCounts, answer::IMAGE) => Reply::new(answer::IMAGE, vec![0]),
+            (Slip::RefusalCounts, given) if answer::is_bad_image(given) => Reply { octets: vec![0], ..right },
             (_, answer::ROOM) => right,
             _ => self.given_with_room(way, image, right),
         }
@@ -349,7 +352,7 @@ impl WrongImages {
             Some(true) if image.get(4) == Some(&from.octet()) => {
                 return Reply::new(answer::DONE, image.to_vec())
             }
-            Some(false) => return Reply::bare(answer::IMAGE),
+            Some(false) => return Reply::bare(answer::IMAGE_FIELD),
             _ => {}
         }
         let taken = load(image).is_ok();
@@ -448,7 +451,7 @@ impl Target for WrongImages {
     fn load(&mut self, state: &mut [u8], image: &[u8]) -> u64 {
         match self.loaded(image).filter(|_| state.len() == Self::STATE_LEN) {
             None => self.inner.load(state, image),
-            Some(None) => answer::IMAGE.into(),
+            Some(None) => answer::IMAGE_FIELD.into(),
             Some(Some(loaded)) => {
                 self.inner.write(state, hub_of(&loaded));
                 answer::DONE.into()

@@ -129,12 +129,12 @@ impl Target for WrongRule {
     }
 
     fn load(&mut self, state: &mut [u8], image: &[u8]) -> u64 {
-        let otherwise = self.otherwise(Carrier::Image, image, answer::IMAGE);
+        let otherwise = self.otherwise(Carrier::Image, image, answer::IMAGE_FIELD);
         otherwise.unwrap_or_else(|| self.inner.load(state, image))
     }
 
     fn moved(&self, way: Move, image: &[u8], out: &mut [u8]) -> u64 {
-        let otherwise = self.otherwise(Carrier::Image, image, answer::IMAGE);
+        let otherwise = self.otherwise(Carrier::Image, image, answer::IMAGE_FIELD);
         otherwise.unwrap_or_else(|| self.inner.moved(way, image, out))
     }
 }

@@ -82,7 +82,7 @@ impl AtOnceHub {
                 self.state = state;
                 Reply::bare(answer::DONE)
             }
-            Err(_) => Reply::bare(answer::IMAGE),
+            Err(diagnosis) => Reply::bad_image(diagnosis),
         }
     }
 }

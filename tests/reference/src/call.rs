@@ -1,25 +1,34 @@
 //! Calls with their arguments, what they answer, and lists of both.
 
-/// What a call answers: the number, the octets written, and how many octets of a lump were taken.
+use crate::reason::Diagnosis;
+
+/// What a call answers: the number, the octets written, how many octets of a lump were taken, and where an image is at fault.
 #[derive(Clone, PartialEq, Eq, Hash, Debug)]
 pub struct Reply {
-    /// 0 to 9, by the table of answers.
+    /// One number of the table of answers.
     pub answer: u8,
     /// The octets at the start of the reply buffer.
     pub octets: Vec<u8>,
     /// The octets taken off the serial line; 0 for every call that is no lump.
     pub taken: usize,
+    /// Where the first thing at fault of an image begins; 0 for every answer but 71 to 77.
+    pub offset: usize,
 }
 
 impl Reply {
     /// An answer with the octets that it writes.
     pub fn new(answer: u8, octets: Vec<u8>) -> Reply {
-        Reply { answer, octets, taken: 0 }
+        Reply { answer, octets, taken: 0, offset: 0 }
     }
 
     /// An answer that writes nothing.
     pub fn bare(answer: u8) -> Reply {
         Reply::new(answer, Vec::new())
+    }
+
+    /// The refusal of an image.
+    pub fn bad_image(diagnosis: Diagnosis) -> Reply {
+        Reply { offset: diagnosis.offset, ..Reply::bare(diagnosis.fault.answer()) }
     }
 }
 

@@ -172,12 +172,29 @@ pub mod answer {
     pub const STATE: u8 = 5;
     /// An argument of plug, unplug, report, clock or a question is wrong.
     pub const ARGUMENT: u8 = 6;
-    /// The image is not acceptable.
-    pub const IMAGE: u8 = 7;
     /// Images of version 1 have no place for what the image says.
     pub const NOT_IN_IMAGE: u8 = 8;
     /// No packet is finished.
     pub const INCOMPLETE: u8 = 9;
+    /// The image ends too early, has octets left over, or tells another length.
+    pub const IMAGE_LENGTH: u8 = 71;
+    /// The image has a version that is not taken.
+    pub const IMAGE_VERSION: u8 = 72;
+    /// The image has too many controllers, or wrong indexes.
+    pub const IMAGE_INDEX: u8 = 73;
+    /// Another field of a controller of the image is wrong.
+    pub const IMAGE_FIELD: u8 = 74;
+    /// A table of the image has more than 32 records.
+    pub const IMAGE_COUNT: u8 = 75;
+    /// A record of the image is wrong by itself.
+    pub const IMAGE_RECORD: u8 = 76;
+    /// A record of the image is there already.
+    pub const IMAGE_REPEATED: u8 = 77;
+
+    /// Whether an answer says that an image is not acceptable.
+    pub fn is_bad_image(answer: u8) -> bool {
+        (IMAGE_LENGTH..=IMAGE_REPEATED).contains(&answer)
+    }
 }
 
 /// Bits of the settings words.

@@ -260,7 +260,7 @@ impl Hub {
                 *self = Hub { state, ..Hub::default() };
                 Reply::bare(answer::DONE)
             }
-            Err(_) => Reply::bare(answer::IMAGE),
+            Err(diagnosis) => Reply::bad_image(diagnosis),
         }
     }
 }

@@ -21,7 +21,7 @@ fn moved(image: &[u8], from: Version, to: Version, room: usize) -> Reply {
         return reply;
     }
     match read(image, &[from]) {
-        Err(_) => Reply::bare(answer::IMAGE),
+        Err(diagnosis) => Reply::bad_image(diagnosis),
         Ok(state) if !to.can_tell(&state) => Reply::bare(answer::NOT_IN_IMAGE),
         Ok(state) => done(write(&state, to)),
     }

@@ -1,6 +1,6 @@
 //! Why a call is refused: one reason for each condition that the rules write.
 
-use crate::codes::status;
+use crate::codes::{answer, status};
 
 /// Why a command is refused.
 #[derive(Clone, Copy, PartialEq, Eq, PartialOrd, Ord, Debug, Hash)]
@@ -220,10 +220,10 @@ pub enum ArgumentFault {
     KeyLength,
 }
 
-/// Why an image is answered 7.
+/// Why an image is not acceptable.
 #[derive(Clone, Copy, PartialEq, Eq, PartialOrd, Ord, Debug, Hash)]
 pub enum ImageFault {
-    /// The image ends before its last field.
+    /// The image ends before a field or a record is whole.
     Short,
     /// The length field is not the number of octets.
     Length,
@@ -255,10 +255,44 @@ pub enum ImageFault {
     NameZero(u8),
     /// A table of more than 32 records; the tables count from 0.
     TableCount(u8),
-    /// A record that its command would refuse, or a repeated one.
+    /// A record that its command would refuse by itself.
     Record(u8, Reason),
-    /// Keys of a kind that the controller does not support.
-    TableUnsupported(u8),
+    /// A key of a kind that the controller does not support.
+    RecordUnsupported(u8),
+    /// A record that names the same thing as an earlier one.
+    Repeated(u8),
     /// Octets after the last table.
     LeftOver,
+}
+
+impl ImageFault {
+    /// The answer that tells the host of this fault.
+    pub fn answer(self) -> u8 {
+        use ImageFault::*;
+        match self {
+            Short | Length | LeftOver => answer::IMAGE_LENGTH,
+            Version => answer::IMAGE_VERSION,
+            ControllerCount | Index => answer::IMAGE_INDEX,
+            Plug(_) | Flags | BrEdrOn | LowEnergyOn | BothOff => answer::IMAGE_FIELD,
+            StaticAddress | StaticUnsupported => answer::IMAGE_FIELD,
+            NameEnd(_) | NameLength(_) | NameZero(_) => answer::IMAGE_FIELD,
+            TableCount(_) => answer::IMAGE_COUNT,
+            Record(..) | RecordUnsupported(_) => answer::IMAGE_RECORD,
+            Repeated(_) => answer::IMAGE_REPEATED,
+        }
+    }
+
+    /// This fault of what begins at an offset.
+    pub fn at(self, offset: usize) -> Diagnosis {
+        Diagnosis { fault: self, offset }
+    }
+}
+
+/// What is wrong with an image: the first thing at fault, and where it begins.
+#[derive(Clone, Copy, PartialEq, Eq, PartialOrd, Ord, Debug, Hash)]
+pub struct Diagnosis {
+    /// What is wrong with it.
+    pub fault: ImageFault,
+    /// The octets of the image before it.
+    pub offset: usize,
 }

@@ -57,14 +57,14 @@ fn list_loads(code: u16, records: &[Vec<u8>]) -> bool {
     is_done(&mut hub, code, &le_list(records), complete(code, 0, 0, &[]))
 }
 
-/// Whether an image of two versions loads, and is then the one of version 2 that is saved; else both are refused with 7, and the hub is as
-/// it was.
+/// Whether an image of two versions loads, and is then the one of version 2 that is saved; else both are refused with 74 or 76, and the hub
+/// is as it was.
 fn image_loads([first, second]: [Vec<u8>; 2]) -> bool {
     let mut hub = timed_hub(9);
     let before = hub.clone();
     let reply = hub.load(&first);
-    if reply == bare(7) {
-        assert_eq!(hub.load(&second), reply);
+    if [74, 76].contains(&reply.answer) {
+        assert_eq!(hub.load(&second).answer, reply.answer);
         assert_eq!(hub, before);
         return false;
     }
@@ -182,17 +182,18 @@ fn images() {
 }
 
 #[test]
-fn images_with_either_address_are_answered_7() {
+fn images_with_either_address_are_refused_where_it_stands() {
     for address in ALIKE {
         let long_term = image_of([0; 6], &[long_term_key_of(address, RANDOM_TYPE)], &[]);
         let identity = image_of([0; 6], &[], &[identity_key_of(address, RANDOM_TYPE)]);
-        for (images, fault) in [
-            (image_of(address, &[], &[]), ImageFault::StaticAddress),
-            (long_term, ImageFault::Record(2, Reason::RandomAddress)),
-            (identity, ImageFault::Record(3, Reason::RandomAddress)),
+        for (images, fault, answer, offsets) in [
+            (image_of(address, &[], &[]), ImageFault::StaticAddress, 74, [24, 24]),
+            (long_term, ImageFault::Record(2, Reason::RandomAddress), 76, [293, 35]),
+            (identity, ImageFault::Record(3, Reason::RandomAddress), 76, [294, 36]),
         ] {
-            for image in &images {
-                assert_eq!(load(image).err(), Some(fault));
+            for (image, offset) in images.iter().zip(offsets) {
+                assert_eq!(load(image).err(), Some(fault.at(offset)));
+                assert_eq!(Hub::new().load(image), bad_image(answer, offset));
             }
             assert!(!image_loads(images));
         }

@@ -216,7 +216,7 @@ fn the_at_once_hub_answers_alike() {
 fn version_1_has_no_flag_for_it() {
     let mut hub = Hub::new();
     for flags in [0x0080, 0x0280, 0x0092] {
-        assert_eq!(hub.load(&image_of(1, [DUAL, flags], [0; 6], &[0; 260], &no_tables())), bare(7));
+        assert_eq!(hub.load(&image_of(1, [DUAL, flags], [0; 6], &[0; 260], &no_tables())), bad_image(74, 20));
     }
     for (supported, flags, address, read) in [
         (DUAL, 0, [0; 6], 0x0080),

@@ -44,12 +44,13 @@ fn named(names: &[u8]) -> Vec<u8> {
     image_of(2, [DUAL, 0x0280], [0; 6], names, &no_tables())
 }
 
-/// The image is refused for this reason, and the hub stays as it was.
+/// The image is refused for this reason, whatever the place, and the hub stays as it was.
 fn refuse(image: &[u8], fault: ImageFault) {
-    assert_eq!(load(image).err(), Some(fault));
+    let found = load(image).expect_err("the image is refused");
+    assert_eq!(found.fault, fault);
     let mut hub = timed_hub(9);
     let before = hub.clone();
-    assert_eq!(hub.load(image), bare(7));
+    assert_eq!(hub.load(image), bad_image(fault.answer(), found.offset));
     assert_eq!(hub, before);
 }
 
@@ -329,7 +330,7 @@ fn repeats() {
             _ => {}
         }
         tables[place].push(again);
-        refuse_tables(&tables, ImageFault::Record(place as u8, Reason::Repeated));
+        refuse_tables(&tables, ImageFault::Repeated(place as u8));
     }
 }
 
@@ -341,7 +342,7 @@ fn key_tables_need_support() {
             let mut tables = no_tables();
             tables[place] = some_tables()[place].clone();
             let image = image_in(version, supported, flags, [0; 6], &tables);
-            refuse(&image, ImageFault::TableUnsupported(place as u8));
+            refuse(&image, ImageFault::RecordUnsupported(place as u8));
         }
         let mut tables = no_tables();
         for place in [0, 4, 5] {

@@ -129,11 +129,11 @@ fn each_move_takes_its_own_version() {
         (downgrade, second(&[], &[]), first(&[0; 260])),
     ] {
         assert_eq!(moved(&own, 16_014).answer, 0);
-        assert_eq!(moved(&other, 16_014), bare(7));
+        assert_eq!(moved(&other, 16_014), bad_image(72, 4));
         for version in (0..=255).filter(|version| *version != own[4]) {
             let mut image = own.clone();
             image[4] = version;
-            assert_eq!(moved(&image, 16_014), bare(7));
+            assert_eq!(moved(&image, 16_014), bad_image(72, 4));
         }
     }
 }
@@ -141,18 +141,18 @@ fn each_move_takes_its_own_version() {
 #[test]
 fn a_move_is_refused_where_a_load_is() {
     let names = second(b"north", b"no")[NAMES..NAMES + 9].to_vec();
-    for (moved, image) in [
-        (upgrade as Move, image_of(1, [DUAL, 0x0212], STATIC, &[7; 260], &no_tables())),
-        (upgrade, image_of(1, [DUAL, 0x0292], STATIC, &[0; 260], &no_tables())),
-        (upgrade, image_of(1, [LE_ONLY, 0], [0; 6], &[0; 260], &no_tables())),
-        (downgrade, image_of(2, [DUAL, 0x0012], [0; 6], &names, &no_tables())),
-        (downgrade, image_of(2, [LE_ONLY, 0x0280], [0; 6], &names, &no_tables())),
-        (downgrade, image_of(2, [DUAL, 0x0280], [0; 6], &[249; 252], &no_tables())),
-        (downgrade, image_of(2, [DUAL, 0x0280], [0; 6], &[1, 0, 0], &no_tables())),
-        (downgrade, image_of(2, [DUAL, 0x0280], [0; 6], &[0; 3], &no_tables())),
+    for (moved, image, answer, offset) in [
+        (upgrade as Move, image_of(1, [DUAL, 0x0212], STATIC, &[7; 260], &no_tables()), 74, NAMES),
+        (upgrade, image_of(1, [DUAL, 0x0292], STATIC, &[0; 260], &no_tables()), 74, 20),
+        (upgrade, image_of(1, [LE_ONLY, 0], [0; 6], &[0; 260], &no_tables()), 74, 20),
+        (downgrade, image_of(2, [DUAL, 0x0012], [0; 6], &names, &no_tables()), 74, 20),
+        (downgrade, image_of(2, [LE_ONLY, 0x0280], [0; 6], &names, &no_tables()), 74, 20),
+        (downgrade, image_of(2, [DUAL, 0x0280], [0; 6], &[249; 252], &no_tables()), 74, NAMES),
+        (downgrade, image_of(2, [DUAL, 0x0280], [0; 6], &[1, 0, 0], &no_tables()), 74, NAMES),
+        (downgrade, image_of(2, [DUAL, 0x0280], [0; 6], &[0; 3], &no_tables()), 71, 38),
     ] {
-        assert_eq!(Hub::new().load(&image), bare(7));
-        assert_eq!(moved(&image, 16_014), bare(7));
+        assert_eq!(Hub::new().load(&image), bad_image(answer, offset));
+        assert_eq!(moved(&image, 16_014), bad_image(answer, offset));
     }
 }
 
@@ -165,13 +165,14 @@ fn rooms_come_before_images_and_images_before_flags() {
             assert_eq!(moved(&[], room), bare(4));
         }
         assert_eq!(moved(&image, 16_015), moved(&image, 16_014));
-        assert_eq!(moved(&[], 16_014), bare(7));
+        assert_eq!(moved(&[], 16_014), bad_image(71, 0));
     }
     let off = several(&[[DUAL, 0x0200]]);
     assert_eq!(downgrade(&off, 16_013), bare(4));
     assert_eq!(downgrade(&off, 16_014), bare(8));
-    assert_eq!(downgrade(&[&off[..], &[0]].concat(), 16_014), bare(7));
-    assert_eq!(downgrade(&sized(off[..off.len() - 1].to_vec()), 16_014), bare(7));
+    assert_eq!(downgrade(&[&off[..], &[0]].concat(), 16_014), bad_image(71, 0));
+    assert_eq!(downgrade(&sized([&off[..], &[0]].concat()), 16_014), bad_image(71, off.len()));
+    assert_eq!(downgrade(&sized(off[..off.len() - 1].to_vec()), 16_014), bad_image(71, off.len() - 1));
     let faulty_behind = several(&[[DUAL, 0x0200], [DUAL, 0]]);
-    assert_eq!(downgrade(&faulty_behind, 16_014), bare(7));
+    assert_eq!(downgrade(&faulty_behind, 16_014), bad_image(74, 38 + 14));
 }

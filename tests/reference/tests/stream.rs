@@ -221,7 +221,7 @@ fn no_other_call_touches_what_waits_or_is_told_of_it() {
         assert_eq!(hub.plug(1, &PUBLIC, 6, 1, DUAL, 1024), done(frame(4, 1, &[])));
         assert_eq!(hub.unplug(1, 1024), done(frame(5, 1, &[])));
         assert_eq!(hub.command(&VERSION[..5], 1024), bare(3));
-        assert_eq!(hub.load(&[0, 0, 0, 6, 3, 0]), bare(7));
+        assert_eq!(hub.load(&[0, 0, 0, 6, 3, 0]), bad_image(72, 4));
     }
     assert_eq!((hub.save(16_014), hub.state()), (other.save(16_014), other.state()));
     assert_eq!(hub.waiting(), &waiting);

@@ -69,6 +69,11 @@ pub fn bare(answer: u8) -> Reply {
     Reply::bare(answer)
 }
 
+/// The refusal of an image: the number, and where the first thing at fault begins.
+pub fn bad_image(answer: u8, offset: usize) -> Reply {
+    Reply { offset, ..bare(answer) }
+}
+
 /// Sends a command with just enough room.
 pub fn send(hub: &mut Hub, code: u16, index: u16, parameters: &[u8]) -> Reply {
     hub.command(&frame(code, index, parameters), 1024)
