@@ -28,7 +28,7 @@ fn packet_ok(packet: &[u8]) -> bool
 }
 
 // What came of a lump: the answer, and how many of its octets were taken.
-#[derive(Drop)]
+#[derive(Clone, Copy)]
 pub struct LumpAnswer {
     pub answer: Answer,
     pub taken: usize,

@@ -11,14 +11,14 @@ ghost use Rattle.records.specs.Identities.{among, apart};
 use records::Identity;
 
 // A place in a list: the caller's packet, and where the next record begins.
-#[derive(Drop)]
+#[derive(Clone, Copy)]
 pub struct Reader<'a> {
     pub packet: &'a [u8],
     pub at: usize,
 }
 
 // One key record as the reader hands it out: its identity, and whether it keeps the rule of its table.
-#[derive(Drop)]
+#[derive(Clone, Copy)]
 pub struct Key {
     pub identity: Identity,
     pub keeps_rule: bool,

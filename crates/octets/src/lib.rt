@@ -1,4 +1,6 @@
 // Reading and writing lent octets, in the model's words.
+#![tactic(auto)]
+
 ghost use Rattle.std.specs.Prelude.{◌≡◌, ◌+◌, ◌*◌, ◌≤◌, ◌<◌, ◌∷◌, [], length, replicate};
 ghost use Rattle.model.specs.Octets.{le16, le32, be32, u16, u32, number, all_zero, same, used_part};
 ghost use Rattle.octets.specs.Parts.{part, write_at};

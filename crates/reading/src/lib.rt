@@ -13,7 +13,7 @@ ghost use Rattle.reading.specs.Comes.{Comes, Continues, Judges};
 use model::{ImageFault, Reached, Version};
 
 // What an image is found to be: acceptable, in a version; or its first fault, and where that begins.
-#[derive(Drop)]
+#[derive(Clone, Copy)]
 pub enum Judgement {
     Acceptable(Version),
     Faulty(ImageFault, usize),

@@ -15,14 +15,14 @@ ghost use Rattle.records.specs.Identities.{identity_of, same_identity, among, ap
 mod marks;
 
 // What no two records of a table may share, of up to 16 octets, as two words: the first eight octets and those behind, low octet first.
-#[derive(Drop)]
+#[derive(Clone, Copy)]
 pub struct Identity {
     pub low: u64,
     pub high: u64,
 }
 
 // What a walk over slots saw: whether all is fine there, and how many records there are.
-#[derive(Drop)]
+#[derive(Clone, Copy)]
 struct Looked {
     valid: bool,
     found: usize,

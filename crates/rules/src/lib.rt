@@ -1,4 +1,5 @@
 // What the commands decide and change, by value: no function here touches the lent state or a reply.
+#![tactic(auto)]
 pub mod effects;
 
 ghost use Rattle.std.specs.Prelude.{◌≡◌, ◌+◌, ◌≤◌, ◌&&◌, ◌||◌, length};
@@ -13,7 +14,7 @@ ghost use Rattle.rules.specs.Decisions.{decision, settings_ok};
 use model::{Hardware, RadioSettings, Settings, Timer, statuses};
 
 // What a settings command comes to, Busy aside: refused before Busy, or after it, with a status; or it waits for the radio, or acts at once.
-#[derive(Drop)]
+#[derive(Clone, Copy)]
 pub enum Decision {
     Refuse(u8),
     Reject(u8),

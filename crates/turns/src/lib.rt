@@ -4,6 +4,7 @@
 // The seconds are not counted one by one. The turn under way is ended first. Then whole rounds in which no instance goes are skipped by
 // division, and one round of at most 5 turns is walked: at its end no seconds are left, or an instance went. There are at most five instances,
 // so that 6 rounds are enough for any number of seconds, and `advance` has no more: at most 1 + 6 * 5 = 31 turns are walked.
+#![tactic(auto)]
 ghost use Rattle.std.specs.Prelude.{◌≡◌, ◌-◌, ◌≤◌, ◌<◌, [], ◌∷◌};
 ghost use Rattle.model.specs.Advertising.{value_of, with_value, present, first_present, following, passed_on, with_instance, seconds};
 ghost use Rattle.model.specs.Advertising.{no_schedule, whole_turn, added_instance, removed_instance, lasting, powered_off, repowered};
@@ -15,7 +16,7 @@ use model::Schedule;
 mod skips;
 
 // A schedule, and the seconds that are still to come.
-#[derive(Drop)]
+#[derive(Clone, Copy)]
 struct Pending {
     schedule: Schedule,
     seconds: u32,

@@ -9,7 +9,7 @@ use model::{Place, Reason};
 pub const TEXT_BUFFER: usize = 256;
 
 // What is found: the packet would be taken, a settings command is under way, or this is wrong, and there.
-#[derive(Drop)]
+#[derive(Clone, Copy)]
 pub enum Finding {
     Taken,
     Busy,

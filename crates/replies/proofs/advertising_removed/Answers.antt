@@ -1,0 +1,23 @@
+-- `replies::advertising_removed` meets its contract. What is told of each instance, each behind the one before, is what the model tells of all.
+use Rattle.replies.proofs.Advertising.{removed_row}
+use borrow.Author.Rules.{rules}
+use Rattle.replies.proofs.advertising_removed.Goals as goal
+
+pub returns : goal.returns
+returns c =
+    let fourth = c in
+    let third = fourth in
+    let second = third.before.before.before.before in
+    let first = second.before.before.before.before in
+    removed_row
+    _ _ _ _ _ _ _ _ _ _ _ _ _ _ _
+    first.instance-removed.ensures.1
+    first.instance-removed.ensures.2
+    second.instance-removed2.ensures.1
+    second.instance-removed2.ensures.2
+    third.instance-removed3.ensures.1
+    third.instance-removed3.ensures.2
+    fourth.instance_removed-fifth.ensures.1
+    fourth.instance_removed-fifth.ensures.2
+    c.instance_removed.ensures.1
+    c.instance_removed.ensures.2

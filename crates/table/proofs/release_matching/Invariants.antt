@@ -1,0 +1,13 @@
+use native.Mathlib.Omega.{arith}
+use lib.ListN.{length}
+use Rattle.model.specs.Tables.{begins, entries}
+use Rattle.table.specs.Slots.{table_at}
+use Rattle.table.proofs.Laws.{Freeing, freeing_first, freeing_turn, freeing_less, freeing_last, other_slot}
+use borrow.Author.Rules.{rules}
+use Rattle.table.proofs.release_matching.Given as goal
+
+abbrev pub invariant-loop-at : goal.invariant-loop-at
+invariant-loop-at l = Freeing (begins l.n l.key) l.initial.s l.s l.at l.size
+
+abbrev pub decreases-loop-at : goal.decreases-loop-at
+decreases-loop-at l = length (entries (table_at l.s l.at l.size))
