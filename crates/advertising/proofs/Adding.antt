@@ -20,15 +20,15 @@ use Rattle.model.specs.Advertising.{added_instance, advertising_added, present, 
 use Rattle.model.specs.Octets.{Octets, command_complete, command_status, event, le16, octet, u16}
 use Rattle.model.specs.declared.Settings.{Settings}
 use Rattle.model.specs.State.{Controller, Host, settings_of, with_advertising, with_host}
-use Rattle.model.specs.Proof.Advertising.{advertising_fit}
-use Rattle.model.specs.Proof.Schedule.{on_air_five}
+use Rattle.model.proofs.Model.Advertising.{advertising_fit}
+use Rattle.model.proofs.Model.Schedule.{on_air_five}
 use Rattle.layout.proofs.Advertising.{advertising_fine}
 use Rattle.model.specs.Reasons.{first_of, status_of}
 use Rattle.model.specs.declared.Reason.{Reason}
 use Rattle.model.specs.Rules.{Immediate, done, refuse, act, unless}
 use Rattle.model.specs.Immediate.{add_advertising, advertised, advertising_checks}
 use Rattle.model.specs.Layout.{decode, encode}
-use Rattle.model.specs.Proof.Room.{length_complete}
+use Rattle.model.proofs.Model.Room.{length_complete}
 use Rattle.octets.specs.Parts.{part, write_at}
 use Rattle.octets.proofs.Parts.{part_first, write_split}
 use Rattle.layout.specs.Advertising.{with_instance_data}

@@ -15,7 +15,7 @@ use Rattle.model.specs.declared.Reason.{Reason}
 use Rattle.model.specs.declared.Reason.TheVariants.{AdvDataAbove31, AdvertisingFlags, InstanceNot1To5, LowEnergyOff, ScanRspAbove31}
 use Rattle.model.specs.declared.Reason.TheVariants.{AdvertisingTimeoutUnpowered}
 use Rattle.model.specs.Immediate.{add_advertising, advertising_checks}
-use Rattle.model.specs.Proof.Tests.{and_true, no_way, not-false}
+use Rattle.model.proofs.Model.Tests.{and_true, no_way, not-false}
 use Rattle.octets.specs.Parts.{part}
 use Rattle.advertising.specs.Refusals.{status_if}
 

@@ -23,7 +23,7 @@ use Rattle.model.specs.declared.Reason.TheVariants.{InstanceAbsent}
 use Rattle.model.specs.Rules.{done, refuse, act, unless}
 use Rattle.model.specs.Immediate.{remove_advertising, sized}
 use Rattle.model.specs.Layout.{decode, encode}
-use Rattle.model.specs.Proof.Room.{length_complete}
+use Rattle.model.proofs.Model.Room.{length_complete}
 use Rattle.octets.specs.Parts.{write_at}
 use Rattle.octets.proofs.Parts.{write_split}
 use Rattle.layout.specs.Places.{Ready, controller_of, put_controller}

@@ -18,9 +18,9 @@ use Rattle.model.specs.State.{Controller, controller_at}
 use Rattle.model.specs.Hub.{answer_of, octets_of, state_of}
 use Rattle.model.specs.Layout.{decode, encode}
 use Rattle.model.specs.Meanings.{on_air_out, state_ok}
-use Rattle.model.specs.Proof.Advertising.{advertising_fit}
-use Rattle.model.specs.Proof.Demand3.{state_back}
-use Rattle.model.specs.Proof.Schedule.{on_air_five}
+use Rattle.model.proofs.Model.Advertising.{advertising_fit}
+use Rattle.model.proofs.Model.Demand3.{state_back}
+use Rattle.model.proofs.Model.Schedule.{on_air_five}
 use Rattle.octets.specs.Parts.{write_at}
 use Rattle.octets.proofs.Parts.{write_split}
 use Rattle.layout.specs.Places.{Ready, controller_of, present_at}

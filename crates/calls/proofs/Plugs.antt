@@ -31,7 +31,7 @@ use Rattle.replies.proofs.Laws.{gives_written, length_event, then}
 use Rattle.outcomes.specs.Outcomes.{ended}
 use Rattle.outcomes.proofs.Endings.{ends_silent, ends_done}
 use Rattle.calls.specs.Given.{hardware_given}
-use Rattle.model.specs.Proof.Room.{length_status}
+use Rattle.model.proofs.Model.Room.{length_status}
 
 -- 1. Arguments that are wrong -------------------------------------------------------------------------------------------------------------------
 

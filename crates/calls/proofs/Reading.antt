@@ -23,8 +23,8 @@ use Rattle.model.specs.Hub.{finished, bad_argument, clock_out, countdown, ends, 
 use Rattle.model.specs.Layout.{controllers_in, decode, encode}
 use Rattle.model.specs.Meanings.{state_ok}
 use Rattle.model.specs.WellFormed.{controller_ok, open_ok}
-use Rattle.model.specs.Proof.Advertising.{advertising_fit, none_removed, rescheduled_same}
-use Rattle.model.specs.Proof.Demand3.{state_long}
+use Rattle.model.proofs.Model.Advertising.{advertising_fit, none_removed, rescheduled_same}
+use Rattle.model.proofs.Model.Demand3.{state_long}
 use Rattle.octets.specs.Parts.{write_at}
 use Rattle.layout.specs.Places.{Ready, controller_of, open_at, present_at, put_controller, with_clock}
 use Rattle.layout.proofs.Advertising.{advertising_fine}
@@ -44,7 +44,7 @@ use Rattle.outcomes.specs.Outcomes.{ended}
 use Rattle.outcomes.proofs.Endings.{ends_done}
 use Rattle.calls.specs.Ticks.{Ticked, end_event, tick_event, ticked_at}
 use Rattle.calls.proofs.Plugs.{bad_argument_lem}
-use Rattle.model.specs.Proof.Stays.{tick_ok}
+use Rattle.model.proofs.Model.Stays.{tick_ok}
 
 -- 1. One index ------------------------------------------------------------------------------------------------------------------------------------
 

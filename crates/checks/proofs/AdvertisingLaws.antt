@@ -15,8 +15,8 @@ use Rattle.model.specs.Advertising.{duration_of, value_of}
 use Rattle.model.specs.Octets.{Octets, all_zero, u16}
 use Rattle.model.specs.WellFormed.{schedule_ok, times_fit, times_ok, turn_ok}
 use Rattle.model.specs.Layout.{schedule_back}
-use Rattle.model.specs.Proof.Tests.{Five, five, five_of}
-use Rattle.model.specs.Proof.Tests.{and_off, and_true, or_true}
+use Rattle.model.proofs.Model.Tests.{Five, five, five_of}
+use Rattle.model.proofs.Model.Tests.{and_off, and_true, or_true}
 use Rattle.octets.specs.Parts.{part}
 use Rattle.octets.proofs.Numbers.{zeros_append}
 use Rattle.octets.proofs.Laws.{part_suc}

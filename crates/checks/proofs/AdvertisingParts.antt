@@ -17,9 +17,9 @@ use Rattle.model.specs.Commands.{words}
 use Rattle.model.specs.Tables.{chop}
 use Rattle.model.specs.WellFormed.{advertising_ok, data_fit, data_ok, schedule_ok}
 use Rattle.model.specs.Layout.{advertising_back, advertising_part, controller_back, data_back, data_list_back, data_part, schedule_back, schedule_part}
-use Rattle.model.specs.Proof.Layout.{length_data, length_data_list}
-use Rattle.model.specs.Proof.Tables.{same_refl}
-use Rattle.model.specs.Proof.Tests.{and_off}
+use Rattle.model.proofs.Model.Layout.{length_data, length_data_list}
+use Rattle.model.proofs.Model.Tables.{same_refl}
+use Rattle.model.proofs.Model.Tests.{and_off}
 use Rattle.octets.specs.Parts.{part}
 use Rattle.octets.proofs.Parts.{get_d_part, length_part}
 use Rattle.octets.proofs.Laws.{part_suc}

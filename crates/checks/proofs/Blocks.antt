@@ -13,12 +13,12 @@ use Rattle.model.specs.Octets.{Octets, bytes, le32, same, u32}
 use Rattle.model.specs.WellFormed.{open_ok, opens_ok, plain_ok, slot_is_ok, slots_ok, waiting_ok, well_formed}
 use Rattle.model.specs.Layout.{block, blocks, controller_in, controllers_in, decode, encode, open_in, opens_in, waiting_back, waiting_part}
 use Rattle.model.specs.Meanings.{state_ok}
-use Rattle.model.specs.Proof.Demand3.{state_back, state_long, state_well}
-use Rattle.model.specs.Proof.Keeps.{well_fit}
-use Rattle.model.specs.Proof.Layout.{length_block, waiting_tail}
-use Rattle.model.specs.Proof.Stays.{plain_fit}
-use Rattle.model.specs.Proof.Tables.{same_eq, same_refl}
-use Rattle.model.specs.Proof.Tests.{and_true, both, equal}
+use Rattle.model.proofs.Model.Demand3.{state_back, state_long, state_well}
+use Rattle.model.proofs.Model.Keeps.{well_fit}
+use Rattle.model.proofs.Model.Layout.{length_block, waiting_tail}
+use Rattle.model.proofs.Model.Stays.{plain_fit}
+use Rattle.model.proofs.Model.Tables.{same_eq, same_refl}
+use Rattle.model.proofs.Model.Tests.{and_true, both, equal}
 use Rattle.octets.specs.Parts.{part}
 use Rattle.checks.proofs.Tests.{le32_part, one_test, u32_lt}
 use Rattle.checks.specs.Blocks.{block_ok}

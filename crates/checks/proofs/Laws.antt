@@ -24,7 +24,7 @@ use Rattle.model.specs.Tables.{TableRule, chop, distinct, empty, entries, every,
 use Rattle.model.specs.Image.{name_ok, radio_ok}
 use Rattle.model.specs.Layout.{slots_back}
 use Rattle.model.specs.Tables.{rule_at}
-use Rattle.model.specs.Proof.Tests.{and_true, or_true, and_off}
+use Rattle.model.proofs.Model.Tests.{and_true, or_true, and_off}
 use Rattle.model.specs.Rules.{set_bredr, set_connectable, set_discoverable, set_low_energy, set_powered}
 use Rattle.layout.specs.Places.{base, controller_of, place_of, present_at, sizes}
 use Rattle.layout.proofs.Reading.{name_at}

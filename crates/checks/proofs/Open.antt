@@ -19,15 +19,15 @@ use Rattle.model.specs.Commands.{Row, find, rows, rule}
 use Rattle.model.specs.Hub.{starts, starts_by}
 use Rattle.model.specs.WellFormed.{open_ok}
 use Rattle.model.specs.Layout.{open_part, open_with, size_of}
-use Rattle.model.specs.Proof.Decode.{started_by}
-use Rattle.model.specs.Proof.Tables.{bytes_take, eqb_self, same_refl}
-use Rattle.model.specs.Proof.Tests.{no_way, and_off}
+use Rattle.model.proofs.Model.Decode.{started_by}
+use Rattle.model.proofs.Model.Tables.{bytes_take, eqb_self, same_refl}
+use Rattle.model.proofs.Model.Tests.{no_way, and_off}
 use Rattle.octets.specs.Parts.{part}
 use Rattle.octets.proofs.Parts.{length_part}
 use Rattle.rules.specs.Decisions.{decision, is_started}
 use Rattle.rules.proofs.Ties.{starts_is}
 use Rattle.checks.proofs.Tests.{and_on, le16_part, one_test, part_add, same_append, same_zeros}
-use Rattle.model.specs.Proof.Room.{length_le16}
+use Rattle.model.proofs.Model.Room.{length_le16}
 use Rattle.checks.specs.Open.{started_octets_ok, open_octets_ok}
 
 -- 1. The test -------------------------------------------------------------------------------------------------------------------------------

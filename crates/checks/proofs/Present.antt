@@ -20,10 +20,10 @@ use Rattle.model.specs.WellFormed.{advertising_ok, controller_ok, open_ok, slot_
 use Rattle.model.specs.Layout.{block, controller_back, controller_in, controller_part, hardware_part, open_back, open_in, open_part, open_with, regions}
 use Rattle.model.specs.Layout.{advertising_part, settings_part, tables_back}
 use Rattle.model.specs.Meanings.{state_ok}
-use Rattle.model.specs.Proof.Parts.{fit_widths}
-use Rattle.model.specs.Proof.Layout.{length_open}
-use Rattle.model.specs.Proof.Tables.{byte_at, same_refl}
-use Rattle.model.specs.Proof.Tests.{and_true, both}
+use Rattle.model.proofs.Model.Parts.{fit_widths}
+use Rattle.model.proofs.Model.Layout.{length_open}
+use Rattle.model.proofs.Model.Tables.{byte_at, same_refl}
+use Rattle.model.proofs.Model.Tests.{and_true, both}
 use Rattle.octets.specs.Parts.{part, place_at}
 use Rattle.octets.proofs.Parts.{get_d_part, length_part, u16_part}
 use Rattle.layout.specs.Places.{base, controller_of, place_of, sizes}

@@ -12,7 +12,7 @@ use Rattle.model.specs.declared.Hardware.{Hardware}
 use Rattle.model.specs.Octets.{Octets, bytes, le16, same}
 use Rattle.model.specs.State.{flag}
 use Rattle.model.specs.Layout.{hardware_part, settings_part}
-use Rattle.model.specs.Proof.Tables.{same_refl}
+use Rattle.model.proofs.Model.Tables.{same_refl}
 use Rattle.octets.specs.Parts.{part}
 use Rattle.octets.proofs.Parts.{length_part}
 use Rattle.layout.proofs.Reading.{hardware_from, settings_from}

@@ -12,7 +12,7 @@ use lib.Dec.{eqb}
 use Rattle.model.specs.Octets.{Octets, all_zero, bytes, same, u32}
 use Rattle.model.specs.Tables.{chop}
 use Rattle.model.specs.Layout.{occupancy, region, slot_octets, slots, slots_back}
-use Rattle.model.specs.Proof.Tables.{same_refl}
+use Rattle.model.proofs.Model.Tables.{same_refl}
 use Rattle.octets.specs.Parts.{part}
 use Rattle.octets.proofs.Parts.{length_part}
 use Rattle.octets.proofs.Numbers.{zeros_append}

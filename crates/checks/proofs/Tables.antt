@@ -16,8 +16,8 @@ use Rattle.model.specs.Tables.{TableRule, blocked_rule, chop, device_rule, entri
 use Rattle.model.specs.Tables.{support_ok, table_rules, uuid_rule}
 use Rattle.model.specs.WellFormed.{table_ok, tables_ok}
 use Rattle.model.specs.Layout.{region, regions, slots_back, table_back, tables_back}
-use Rattle.model.specs.Proof.Tables.{bytes_chop, bytes_drop}
-use Rattle.model.specs.Proof.Tests.{and_true, both}
+use Rattle.model.proofs.Model.Tables.{bytes_chop, bytes_drop}
+use Rattle.model.proofs.Model.Tests.{and_true, both}
 use Rattle.octets.specs.Parts.{part}
 use Rattle.octets.proofs.Parts.{drop_take, length_part, u32_part}
 use Rattle.table.specs.Slots.{table_at}

@@ -10,7 +10,7 @@ use lib.Seq.{take-add, drop-drop, drop-cons}
 use lib.Dec.{eqb}
 use lib.Pow.{low, high}
 use Rattle.model.specs.Octets.{Octets, all_zero, bytes, le16, le32, same, u16, u32}
-use Rattle.model.specs.Proof.Tables.{byte_at, bytes_drop, bytes_take}
+use Rattle.model.proofs.Model.Tables.{byte_at, bytes_drop, bytes_take}
 use Rattle.octets.specs.Parts.{part}
 
 -- two tests that follow from each other are one

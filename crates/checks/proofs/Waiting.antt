@@ -14,9 +14,9 @@ use Rattle.model.specs.Octets.{Octets, all_zero, bytes, le32, same, u16, u32}
 use Rattle.model.specs.Stream.{kept_count, length_said, waiting_at}
 use Rattle.model.specs.WellFormed.{waiting_ok}
 use Rattle.model.specs.Layout.{decode, waiting_back, waiting_part}
-use Rattle.model.specs.Proof.Tables.{bytes_drop, bytes_take, same_eq, same_refl}
-use Rattle.model.specs.Proof.Tests.{and_true, both}
-use Rattle.model.specs.Proof.WaitingOctets.{count_room, count_same, kept_fits, padded, said_zeros, waiting_fit}
+use Rattle.model.proofs.Model.Tables.{bytes_drop, bytes_take, same_eq, same_refl}
+use Rattle.model.proofs.Model.Tests.{and_true, both}
+use Rattle.model.proofs.Model.WaitingOctets.{count_room, count_same, kept_fits, padded, said_zeros, waiting_fit}
 use Rattle.octets.specs.Parts.{part}
 use Rattle.checks.proofs.Tests.{le32_part, one_test}
 use Rattle.checks.specs.Waiting.{waiting_octets_ok}

@@ -24,7 +24,7 @@ use Rattle.model.specs.Immediate.{unpair_device, block_device, unblock_device, a
 use Rattle.model.specs.Commands.{rows, find, rule, read_version, read_commands, read_indexes}
 use Rattle.model.specs.Hub.{refused, by_status}
 use Rattle.model.specs.Meanings.{state_ok}
-use Rattle.model.specs.Proof.Tests.{no_way, equal, and_true}
+use Rattle.model.proofs.Model.Tests.{no_way, equal, and_true}
 use Rattle.octets.specs.Parts.{write_at}
 use Rattle.layout.specs.Places.{Ready, present_at}
 use Rattle.replies.specs.Answers.{Gives}

@@ -9,7 +9,7 @@ use borrow.Author.Tests.{eq-eqb, ne_eqb}
 use Rattle.model.specs.Codes as Codes
 use Rattle.model.specs.Rules.{Rule}
 use Rattle.model.specs.Commands.{Row, rows, find, rule}
-use Rattle.model.specs.Proof.Tests.{no_way, equal, and_true, or_false}
+use Rattle.model.proofs.Model.Tests.{no_way, equal, and_true, or_false}
 use Rattle.dispatch.specs.Groups.{member, general_codes, settings_codes, key_codes, device_codes, advertising_codes, information_codes, controller_codes}
 
 -- of a list with a code left out, the others

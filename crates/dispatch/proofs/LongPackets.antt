@@ -25,9 +25,9 @@ use Rattle.model.specs.Commands.{read_commands, read_indexes, read_version, rule
 use Rattle.model.specs.Hub.{by_rule, command_out}
 use Rattle.model.specs.Layout.{decode}
 use Rattle.model.specs.Meanings.{state_ok, laid_out}
-use Rattle.model.specs.Proof.Long.{LongParams, by_list, controller_reason, list_fits, long_refused, long_reason, same_fits}
-use Rattle.model.specs.Proof.Tests.{equal, no_way}
-use Rattle.model.specs.Proof.WaitingOctets.{bytes_zeros}
+use Rattle.model.proofs.Model.Long.{LongParams, by_list, controller_reason, list_fits, long_refused, long_reason, same_fits}
+use Rattle.model.proofs.Model.Tests.{equal, no_way}
+use Rattle.model.proofs.Model.WaitingOctets.{bytes_zeros}
 use Rattle.octets.specs.Parts.{write_at}
 use Rattle.layout.specs.Places.{open_at, present_at}
 use Rattle.layout.proofs.Reading.{absent_controller, present_controller, ready}

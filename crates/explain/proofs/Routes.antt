@@ -19,7 +19,7 @@ use Rattle.model.specs.Immediate.{KeyList, length_field, list_checks, load_keys,
 use Rattle.model.specs.Commands.{rule}
 use Rattle.model.specs.Hub.{under_way}
 use Rattle.model.specs.Layout.{decode}
-use Rattle.model.specs.Proof.Tests.{equal, no_way}
+use Rattle.model.proofs.Model.Tests.{equal, no_way}
 use Rattle.layout.specs.Places.{Ready, controller_of, open_at, place_of, present_at}
 use Rattle.layout.proofs.Open.{open_command, open_nothing}
 use Rattle.layout.proofs.Reading.{absent_controller, present_controller}

@@ -15,7 +15,7 @@ use Rattle.model.specs.Reasons.{Check, further, moved, refused_at, refused_if}
 use Rattle.model.specs.State.{bredr_supported, le_supported}
 use Rattle.model.specs.Tables.{first_pair, identity_key_rule, link_key_rule, long_term_key_rule, needs_bredr, needs_le, pair_with, rule_at, table_rules}
 use Rattle.model.specs.Immediate.{KeyList, identity_key_list, link_key_list, list_checks, long_term_key_list, record_checks, records_of, repeat_check}
-use Rattle.model.specs.Proof.Pairs.{pair_if_repeated}
+use Rattle.model.proofs.Model.Pairs.{pair_if_repeated}
 use Rattle.why.specs.declared.Finding.{Finding}
 use Rattle.why.specs.declared.Finding.TheVariants.{Taken}
 use Rattle.why.specs.Findings.{and_then, checked, first_wrong, in_packet}

@@ -11,7 +11,7 @@ use Rattle.model.specs.Octets.{Octets, bytes, same}
 use Rattle.model.specs.declared.Place.{Place}
 use Rattle.model.specs.declared.Place.TheVariants.{Nowhere, Records}
 use Rattle.model.specs.Tables.{chop, first_pair, pair_with, rule_at}
-use Rattle.model.specs.Proof.Tables.{bytes_drop, bytes_take}
+use Rattle.model.proofs.Model.Tables.{bytes_drop, bytes_take}
 use Rattle.octets.specs.Parts.{part}
 use Rattle.octets.proofs.Parts.{length_part}
 use Rattle.records.specs.declared.Identity.{Identity}

@@ -16,7 +16,7 @@ use Rattle.model.specs.State.{static_random}
 use Rattle.model.specs.Reasons.{Check, further, in_record, moved}
 use Rattle.model.specs.Tables.{chop, identity_key_rule, le_address_checks, link_key_rule, long_term_key_rule, rule_at}
 use Rattle.model.specs.Immediate.{record_checks}
-use Rattle.model.specs.Proof.Tests.{no_way}
+use Rattle.model.proofs.Model.Tests.{no_way}
 use Rattle.octets.specs.Parts.{part}
 use Rattle.octets.proofs.Parts.{get_d_part}
 use Rattle.rules.proofs.Addresses.{static_of}

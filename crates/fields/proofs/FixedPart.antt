@@ -19,7 +19,7 @@ use Rattle.model.specs.State.{hardware_ok}
 use Rattle.model.specs.Image.{static_fits}
 use Rattle.model.specs.Reading.{Fixed, Reader, Reading, ◌>>=◌, field, fixed_by, fixed_part}
 use Rattle.model.specs.Reading.{flags_right, free, give, go_on, hardware_by, index_right, name_field, not_whole}
-use Rattle.model.specs.Proof.Tests.{either, not-false, not-true}
+use Rattle.model.proofs.Model.Tests.{either, not-false, not-true}
 use Rattle.octets.specs.Parts.{part}
 use Rattle.fields.specs.Places.{flags_in, hardware_in, static_in}
 use Rattle.fields.specs.Reads.{Reads, fault_of}

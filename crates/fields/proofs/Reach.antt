@@ -16,7 +16,7 @@ use Rattle.model.specs.Octets.{Octets}
 use Rattle.model.specs.Image.{name_read, name_right, name_size}
 use Rattle.model.specs.Reading as Reading
 use Rattle.model.specs.Reading.{Reader, Reading, ◌>>=◌, fault_at, field, give, go_on, name_field, not_whole, right, short, spoilt, wrong}
-use Rattle.model.specs.Proof.Fields.{both_right, leb_of}
+use Rattle.model.proofs.Model.Fields.{both_right, leb_of}
 use Rattle.octets.specs.Parts.{part}
 use Rattle.fields.specs.Places.{fixed_end, short_place}
 use Rattle.fields.specs.Reads.{Begins, Reads, fault_of}

@@ -14,8 +14,8 @@ use Rattle.model.specs.Octets.{Octets, octet}
 use Rattle.model.specs.State.{hardware_ok}
 use Rattle.model.specs.Image.{name_read, name_right, name_size, static_fits}
 use Rattle.model.specs.Reading.{Fixed, Reader, Reading, ◌>>=◌, field, fixed_part, flags_right, give, go_on, index_right, name_field, right}
-use Rattle.model.specs.Proof.Fields.{both_right, field_right, leb_of}
-use Rattle.model.specs.Proof.Tests.{and_true, both}
+use Rattle.model.proofs.Model.Fields.{both_right, field_right, leb_of}
+use Rattle.model.proofs.Model.Tests.{and_true, both}
 use Rattle.octets.specs.Parts.{part}
 use Rattle.fields.specs.Places.{fixed_end, fixed_in, flags_in, hardware_in, names_in, short_place, static_in}
 

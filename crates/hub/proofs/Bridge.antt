@@ -13,7 +13,7 @@ use Rattle.model.specs.Hub.{command, report, clock, plug, unplug, save, save_out
 use Rattle.model.specs.Hub.{state_of, clock_out, plug_out, unplug_out, unplugged}
 use Rattle.model.specs.Layout.{decode}
 use Rattle.model.specs.Meanings.{bad_state, hub_name, hub_on_air, reading, state_ok, laid_out, meaning}
-use Rattle.model.specs.Theorems.{no_name_longer, no_on_air_longer}
+use Rattle.model.proofs.Theorems.{no_name_longer, no_on_air_longer}
 use Rattle.model.specs.Answers.{count_of}
 use Rattle.replies.specs.Answers.{Gives}
 use Rattle.model.specs.declared.Answer.{Answer}

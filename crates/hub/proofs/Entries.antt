@@ -10,8 +10,8 @@ use Rattle.model.specs.Hub.{Call, Result}
 use Rattle.model.specs.Stream.{Streamed}
 use Rattle.model.specs.Moves.{Moved}
 use Rattle.model.specs.Meanings.{Loaded, state_ok, bad_state, hub_load, hub_stream, meaning}
-use Rattle.model.specs.FaultTheorems.{load_offset_fits}
-use Rattle.model.specs.Theorems.{no_lump_reply_longer, no_reply_longer, room_most}
+use Rattle.model.proofs.FaultTheorems.{load_offset_fits}
+use Rattle.model.proofs.Theorems.{no_lump_reply_longer, no_reply_longer, room_most}
 use Rattle.model.specs.Answers.{count_of, number_of, offset_of}
 use Rattle.replies.specs.Answers.{Gives}
 use Rattle.moves.specs.Moving as Moving

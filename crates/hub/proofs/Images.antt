@@ -11,8 +11,8 @@ use Rattle.model.specs.Meanings.{hub_load}
 use Rattle.model.specs.Moves.{Moved, hub_downgrade, hub_upgrade}
 use Rattle.model.specs.Written.{LoadAnswer, MoveAnswer}
 use Rattle.model.specs.Written as Case
-use Rattle.model.specs.Theorems.{loads_answered, moves_answered, no_move_longer}
-use Rattle.model.specs.Proof.Load.{fault_number_lem}
+use Rattle.model.proofs.Theorems.{loads_answered, moves_answered, no_move_longer}
+use Rattle.model.proofs.Model.Load.{fault_number_lem}
 use Rattle.hub.specs.Entries.{ReturnsLoaded, ReturnsMoved}
 use Rattle.hub.specs.Runs.{answer_in, count_in, offset_in}
 

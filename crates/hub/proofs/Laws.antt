@@ -10,8 +10,8 @@ use lib.Dec.{eqb, leb, leb→le}
 use borrow.Author.Tests.{le-leb, lt-leb}
 use Rattle.model.specs.Octets.{Octets, u16}
 use Rattle.model.specs.Hub.{packet_ok}
-use Rattle.model.specs.Proof.Load.{fault_number_lem}
-use Rattle.model.specs.Proof.Tests.{and_true}
+use Rattle.model.proofs.Model.Load.{fault_number_lem}
+use Rattle.model.proofs.Model.Tests.{and_true}
 use Rattle.model.specs.Answers.{number_of}
 use Rattle.model.specs.declared.Answer.{Answer}
 use Rattle.model.specs.declared.Answer.TheVariants.{Done, Started, Refused, BadPacket, SmallBuffer, BadState, BadArgument, BadImage, NotInImage, Incomplete}

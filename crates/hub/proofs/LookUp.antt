@@ -12,8 +12,8 @@ use Rattle.model.specs.LookUp.{look_up}
 use Rattle.model.specs.Layout.{decode}
 use Rattle.model.specs.Meanings.{hub_look_up, look_up_out, told_look_up, refused_look_up, state_ok}
 use Rattle.model.specs.Written.{LookUpAnswer, told, bad_state, wrong}
-use Rattle.model.specs.Proof.LookUp.{first_le, walked_le}
-use Rattle.model.specs.Theorems.{look_ups_answered}
+use Rattle.model.proofs.Model.LookUp.{first_le, walked_le}
+use Rattle.model.proofs.Theorems.{look_ups_answered}
 use Rattle.hub.specs.Entries.{look_up_number}
 use Rattle.hub.specs.Runs.{answer_in, count_in, slot_in, walked_in}
 

@@ -18,14 +18,14 @@ use Rattle.model.specs.Hub.{Call, Result, call, command, code_of, index_of, pack
 use Rattle.model.specs.Stream.{Streamed, grown, kept_count, length_said, packet_in, stream_out, takes, waiting_at}
 use Rattle.model.specs.Layout.{decode, encode, line_cleared}
 use Rattle.model.specs.Meanings.{bad_state, hub_stream, laid_out, meaning, state_ok, stream_laid_out, stream_meaning}
-use Rattle.model.specs.Proof.Demand3.{encode_ok, state_back, state_well}
-use Rattle.model.specs.Proof.Keeps.{well_fit}
-use Rattle.model.specs.Proof.Lump.{Step, acts, packet_in_lem, small, waiting_in, waits}
-use Rattle.model.specs.Proof.OneLump.{cleared_call, line_cleared_lem, lump_step, taken_before, well_cleared}
-use Rattle.model.specs.Proof.Tests.{either, no_way}
-use Rattle.model.specs.Proof.WaitingOctets.{Short, bytes_append, count_head, count_whole, grown_is, kept_said, packet_said, represented, represented_octets, represented_short}
-use Rattle.model.specs.Proof.WaitingOctets.{kept_count_lem, said_append, said_most, said_take, said_zeros, six_said, waiting_fit, waiting_of, whole_packet}
-use Rattle.model.specs.Proof.Tables.{bytes_take}
+use Rattle.model.proofs.Model.Demand3.{encode_ok, state_back, state_well}
+use Rattle.model.proofs.Model.Keeps.{well_fit}
+use Rattle.model.proofs.Model.Lump.{Step, acts, packet_in_lem, small, waiting_in, waits}
+use Rattle.model.proofs.Model.OneLump.{cleared_call, line_cleared_lem, lump_step, taken_before, well_cleared}
+use Rattle.model.proofs.Model.Tests.{either, no_way}
+use Rattle.model.proofs.Model.WaitingOctets.{Short, bytes_append, count_head, count_whole, grown_is, kept_said, packet_said, represented, represented_octets, represented_short}
+use Rattle.model.proofs.Model.WaitingOctets.{kept_count_lem, said_append, said_most, said_take, said_zeros, six_said, waiting_fit, waiting_of, whole_packet}
+use Rattle.model.proofs.Model.Tables.{bytes_take}
 use Rattle.model.specs.declared.Answer.{Answer}
 use Rattle.model.specs.declared.Answer.TheVariants.{BadState, Incomplete, SmallBuffer}
 use Rattle.octets.specs.Parts.{part, write_at}

@@ -21,9 +21,9 @@ use Rattle.model.specs.Meanings.{hub_clock, hub_command, hub_load, hub_plug, hub
 use Rattle.model.specs.Meanings.{state_ok, stream_meaning}
 use Rattle.model.specs.Demand3.{HostEntry, entry, hostAfter, hostNext, hostTrace, lump, made}
 use Rattle.model.specs.Cutting.{LumpTold, coming_in, finishes_packet, not_well, takes_all, too_small}
-use Rattle.model.specs.Theorems.{answers_are_seven, count_fits, demand_3, lump_is_told, no_lump_reply_longer}
-use Rattle.model.specs.Proof.Tests.{and_true, both, either}
-use Rattle.model.specs.Proof.Demand3.{state_back}
+use Rattle.model.proofs.Theorems.{answers_are_seven, count_fits, demand_3, lump_is_told, no_lump_reply_longer}
+use Rattle.model.proofs.Model.Tests.{and_true, both, either}
+use Rattle.model.proofs.Model.Demand3.{state_back}
 use Rattle.hub.specs.Entries.{Returns, ReturnsTaken}
 use Rattle.hub.specs.Runs.{asks, CountsTrue, Demand3OfRuns, EveryListRuns, Run, Seen, Step, answer_in, count_in, ends, entry_by, entry_of, looks, names}
 use Rattle.hub.specs.Runs.{octets_in, on_air, step, taken_in}

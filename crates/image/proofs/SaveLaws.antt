@@ -20,13 +20,13 @@ use Rattle.model.specs.Meanings.{state_ok}
 use Rattle.model.specs.Tables.{blocked_rule, device_rule, entries, identity_key_rule, link_key_rule, long_term_key_rule, table_rules, uuid_rule}
 use Rattle.model.specs.Image.{bredr_flag, controller_image, controller_images, flags_of, image, image_of, name_image, names_image, table_image, version_octet}
 use Rattle.model.specs.WellFormed.{plain_ok, well_formed}
-use Rattle.model.specs.Proof.Fields.{used_most}
-use Rattle.model.specs.Proof.Fixed.{name_parts}
-use Rattle.model.specs.Proof.Parts.{controller_fit, lengths, tables_many}
+use Rattle.model.proofs.Model.Fields.{used_most}
+use Rattle.model.proofs.Model.Fixed.{name_parts}
+use Rattle.model.proofs.Model.Parts.{controller_fit, lengths, tables_many}
 use Rattle.model.specs.Tables.{rule_at}
-use Rattle.model.specs.Proof.RoundTrip.{image_most}
-use Rattle.model.specs.Proof.Demand3.{state_back, state_well}
-use Rattle.model.specs.Proof.Tests.{and_true, equal}
+use Rattle.model.proofs.Model.RoundTrip.{image_most}
+use Rattle.model.proofs.Model.Demand3.{state_back, state_well}
+use Rattle.model.proofs.Model.Tests.{and_true, equal}
 use Rattle.octets.specs.Parts.{part, place_at, write_at}
 use Rattle.octets.proofs.Parts.{length_part, length_write_at, write_left, write_right, write_split}
 use Rattle.table.specs.Slots.{InUse, NextUsed, table_at}

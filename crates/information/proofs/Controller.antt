@@ -20,7 +20,7 @@ use Rattle.model.specs.Rules.{done, act, unless}
 use Rattle.model.specs.Immediate.{sized, class_of, read_information}
 use Rattle.model.specs.Tables.{entries, table_rules, uuid_rule}
 use Rattle.model.specs.Layout.{encode, decode}
-use Rattle.model.specs.Proof.Demand3.{state_back}
+use Rattle.model.proofs.Model.Demand3.{state_back}
 use Rattle.model.specs.Tables.{rule_at}
 use Rattle.octets.specs.Parts.{part, write_at}
 use Rattle.octets.proofs.Parts.{length_part, write_whole}

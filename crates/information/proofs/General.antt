@@ -19,7 +19,7 @@ use Rattle.model.specs.Commands.{read_version, read_commands, read_indexes, word
 use Rattle.model.specs.Hub.{finished, refused, by_status, general_out}
 use Rattle.model.specs.Layout.{decode, controllers_in}
 use Rattle.model.specs.Meanings.{state_ok}
-use Rattle.model.specs.Proof.Demand3.{state_back}
+use Rattle.model.proofs.Model.Demand3.{state_back}
 use Rattle.octets.specs.Parts.{write_at}
 use Rattle.octets.proofs.Parts.{write_split, write_right, write_front}
 use Rattle.layout.specs.Places.{present_at}
@@ -30,7 +30,7 @@ use Rattle.model.specs.declared.Answer.TheVariants.{Done, Refused}
 use Rattle.outcomes.specs.Outcomes.{general_command}
 use Rattle.outcomes.proofs.Endings.{ends_refused, ends_done}
 use Rattle.information.specs.General.{Reply, listed}
-use Rattle.model.specs.Proof.Room.{length_complete, length_le16}
+use Rattle.model.proofs.Model.Room.{length_complete, length_le16}
 
 -- 1. The two checks, and done -----------------------------------------------------------------------------------------------------------------
 

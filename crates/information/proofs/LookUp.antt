@@ -17,8 +17,8 @@ use Rattle.model.specs.declared.Answer.{Answer}
 use Rattle.model.specs.declared.Answer.TheVariants.{BadArgument}
 use Rattle.model.specs.Layout.{decode}
 use Rattle.model.specs.Meanings.{look_up_out, told_look_up, refused_look_up, state_ok}
-use Rattle.model.specs.Proof.LookUp.{first_le, walked_le}
-use Rattle.model.specs.Proof.Tests.{and_true}
+use Rattle.model.proofs.Model.LookUp.{first_le, walked_le}
+use Rattle.model.proofs.Model.Tests.{and_true}
 use Rattle.table.specs.Slots.{table_at}
 use Rattle.layout.specs.Places.{Ready, controller_of, present_at, table_place}
 use Rattle.layout.proofs.Reading.{absent_controller, present_controller, ready}

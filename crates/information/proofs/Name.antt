@@ -22,7 +22,7 @@ use Rattle.model.specs.Immediate.{sized, set_local_name}
 use Rattle.model.specs.Hub.{finished, bad_argument, answer_of, octets_of, state_of}
 use Rattle.model.specs.Layout.{encode, decode}
 use Rattle.model.specs.Meanings.{name_out, state_ok}
-use Rattle.model.specs.Proof.Demand3.{state_back}
+use Rattle.model.proofs.Model.Demand3.{state_back}
 use Rattle.octets.specs.Parts.{part, place_at, write_at}
 use Rattle.layout.specs.Places.{Ready, controller_of, place_of, present_at, put_controller, sizes}
 use Rattle.layout.proofs.Reading.{absent_controller, name_at, present_controller, ready}

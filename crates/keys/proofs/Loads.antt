@@ -20,12 +20,12 @@ use Rattle.model.specs.declared.Reason.TheVariants.{CountAbove32, DebugFlagAbove
 use Rattle.model.specs.Tables.{chop, distinct, loaded, table_rules, le_address_checks, link_key_rule, long_term_key_rule, identity_key_rule, needs_bredr, needs_le}
 use Rattle.model.specs.Rules.{refuse, done, act, unless}
 use Rattle.model.specs.Immediate as M
-use Rattle.model.specs.Proof.Places.{first_both}
+use Rattle.model.proofs.Model.Places.{first_both}
 use Rattle.model.specs.Immediate.{KeyList, list_checks, load_keys, records_of, repeat_check, link_key_list, long_term_key_list, identity_key_list}
 use Rattle.model.specs.Layout.{decode, encode, region}
-use Rattle.model.specs.Proof.Tables.{length_chop}
+use Rattle.model.proofs.Model.Tables.{length_chop}
 use Rattle.model.specs.Tables.{rule_at}
-use Rattle.model.specs.Proof.Tests.{equal}
+use Rattle.model.proofs.Model.Tests.{equal}
 use Rattle.octets.specs.Parts.{part, write_at}
 use Rattle.table.proofs.Slots.{length_loaded, sized_loaded}
 use Rattle.layout.specs.Places.{Ready, controller_of, put_controller, table_place}
@@ -39,7 +39,7 @@ use Rattle.lists.specs.Lists.{each_checks, value_checks}
 use Rattle.keys.specs.Lists.{key_list, ListOf}
 use Rattle.keys.proofs.Checks.{AllOfStatus, FailsWith, fails_with, values_status, first_fails, first_holds, first_numbered, passes_none}
 use Rattle.keys.proofs.Checks.{append_fails, append_passes}
-use Rattle.model.specs.Proof.Room.{length_complete}
+use Rattle.model.proofs.Model.Room.{length_complete}
 
 -- 1. The three lists ------------------------------------------------------------------------------------------------------------------------------
 

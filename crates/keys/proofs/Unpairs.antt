@@ -23,9 +23,9 @@ use Rattle.model.specs.Rules.{refuse, done, act, unless}
 use Rattle.model.specs.Immediate.{sized, any_key, unpaired, unpair_device}
 use Rattle.model.specs.WellFormed.{controller_ok}
 use Rattle.model.specs.Layout.{decode, encode, region}
-use Rattle.model.specs.Proof.Parts.{table_changed}
+use Rattle.model.proofs.Model.Parts.{table_changed}
 use Rattle.model.specs.Tables.{rule_at}
-use Rattle.model.specs.Proof.Tables.{freed_ok, length_freed}
+use Rattle.model.proofs.Model.Tables.{freed_ok, length_freed}
 use Rattle.octets.specs.Parts.{part, write_at}
 use Rattle.table.specs.Slots.{Canonical, first_at, table_at}
 use Rattle.table.proofs.Slots.{holds_first, sized_freed}
@@ -41,7 +41,7 @@ use Rattle.replies.proofs.Laws.{then, length_event}
 use Rattle.outcomes.specs.Outcomes.{immediate_command}
 use Rattle.outcomes.proofs.Endings.{immediate_length, immediate_address, immediate_done_lem}
 use Rattle.keys.specs.Forget.{forgotten, Forgets}
-use Rattle.model.specs.Proof.Room.{length_complete}
+use Rattle.model.proofs.Model.Room.{length_complete}
 
 -- 1. One table ----------------------------------------------------------------------------------------------------------------------------------------
 

@@ -17,12 +17,12 @@ use Rattle.model.specs.Tables.{table_rules}
 use Rattle.model.specs.WellFormed.{advertising_ok, controller_ok, tables_ok}
 use Rattle.model.specs.Layout.{data_back, data_part, decode, encode, schedule_part}
 use Rattle.model.specs.Layout.{settings_part}
-use Rattle.model.specs.Proof.Advertising.{advertising_fit, five_each}
-use Rattle.model.specs.Proof.Decode.{data_back_lem}
-use Rattle.model.specs.Proof.Layout.{length_data, length_schedule}
-use Rattle.model.specs.Proof.OnAir.{data_short}
-use Rattle.model.specs.Proof.Parts.{controller_fit}
-use Rattle.model.specs.Proof.Tests.{five_of}
+use Rattle.model.proofs.Model.Advertising.{advertising_fit, five_each}
+use Rattle.model.proofs.Model.Decode.{data_back_lem}
+use Rattle.model.proofs.Model.Layout.{length_data, length_schedule}
+use Rattle.model.proofs.Model.OnAir.{data_short}
+use Rattle.model.proofs.Model.Parts.{controller_fit}
+use Rattle.model.proofs.Model.Tests.{five_of}
 use Rattle.octets.specs.Parts.{part, place_at, write_at}
 use Rattle.octets.proofs.Parts.{get_d_part, join, lengths}
 use Rattle.rules.specs.Effects.{with_settings, with_turns}

@@ -21,9 +21,9 @@ use Rattle.model.specs.Tables.{TableRule, table_rules}
 use Rattle.model.specs.WellFormed.{controller_ok, data_fit, data_ok, table_ok, tables_ok}
 use Rattle.model.specs.Layout.{advertising_back, controller_back, data_part, hardware_part, open_part, region, schedule_back, schedule_part}
 use Rattle.model.specs.Layout.{settings_part}
-use Rattle.model.specs.Proof.Parts.{controller_fit}
-use Rattle.model.specs.Proof.Tests.{Five, five}
-use Rattle.model.specs.Proof.Tests.{and_true, no_way}
+use Rattle.model.proofs.Model.Parts.{controller_fit}
+use Rattle.model.proofs.Model.Tests.{Five, five}
+use Rattle.model.proofs.Model.Tests.{and_true, no_way}
 use Rattle.octets.specs.Parts.{part, place_at, write_at}
 use Rattle.octets.proofs.Parts.{join, lengths}
 use Rattle.rules.specs.Effects.{with_settings, with_turns}

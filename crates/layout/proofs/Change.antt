@@ -16,10 +16,10 @@ use Rattle.model.specs.State.{Controller, Hub, OpenCommand, settings_of, with_co
 use Rattle.model.specs.Hub.{with_open}
 use Rattle.model.specs.WellFormed.{controller_ok, plain_ok, well_formed}
 use Rattle.model.specs.Layout.{block, decode, encode, open_part, settings_part}
-use Rattle.model.specs.Proof.Demand3.{state_back, state_well}
-use Rattle.model.specs.Proof.Layout.{length_open}
-use Rattle.model.specs.Proof.Stays.{controller_ok_lem}
-use Rattle.model.specs.Proof.Tests.{and_true}
+use Rattle.model.proofs.Model.Demand3.{state_back, state_well}
+use Rattle.model.proofs.Model.Layout.{length_open}
+use Rattle.model.proofs.Model.Stays.{controller_ok_lem}
+use Rattle.model.proofs.Model.Tests.{and_true}
 use Rattle.octets.specs.Parts.{part, write_at}
 use Rattle.octets.proofs.Parts.{join, lengths, write_whole}
 use Rattle.layout.specs.Places.{Ready, base, controller_of, emptied, open_at, place_of, put_controller, sizes}

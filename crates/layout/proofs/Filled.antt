@@ -18,7 +18,7 @@ use Rattle.model.specs.Tables.{blocked_rule, device_rule, identity_key_rule, lin
 use Rattle.model.specs.Layout.{data_part, schedule_part, waiting_part}
 use Rattle.model.specs.Layout.{block, blocks, decode, encode, hardware_part, occupancy, open_part, region, settings_part, slot_octets, slots}
 use Rattle.model.specs.Meanings.{state_ok}
-use Rattle.model.specs.Proof.Demand3.{state_back, state_well}
+use Rattle.model.proofs.Model.Demand3.{state_back, state_well}
 use Rattle.octets.specs.Parts.{place_at, write_at}
 use Rattle.octets.proofs.Parts.{join, lengths, write_split, write_whole}
 use Rattle.layout.specs.Places.{base, hardware_head, open_at, place_of, present_at, put_controller, sizes, transports_of, with_clock}

@@ -13,11 +13,11 @@ use Rattle.model.specs.State.{Controller, Host, Hub, OpenCommand, PlainHub, cont
 use Rattle.model.specs.Hub.{under_way, with_open}
 use Rattle.model.specs.WellFormed.{controller_ok, open_ok, opens_ok, plain_ok, slot_is_ok, well_formed}
 use Rattle.model.specs.Layout.{decode, encode}
-use Rattle.model.specs.Proof.Decode.{decode_encode}
-use Rattle.model.specs.Proof.Demand3.{encode_ok, state_well}
-use Rattle.model.specs.Proof.Keeps.{opens_at, slot_four, well_fit}
-use Rattle.model.specs.Proof.Stays.{fit_plain, plain_fit, slots_set}
-use Rattle.model.specs.Proof.Tests.{and_true, both, no_way}
+use Rattle.model.proofs.Model.Decode.{decode_encode}
+use Rattle.model.proofs.Model.Demand3.{encode_ok, state_well}
+use Rattle.model.proofs.Model.Keeps.{opens_at, slot_four, well_fit}
+use Rattle.model.proofs.Model.Stays.{fit_plain, plain_fit, slots_set}
+use Rattle.model.proofs.Model.Tests.{and_true, both, no_way}
 use Rattle.layout.specs.Places.{Ready, controller_of, open_at, present_at, put_controller}
 use Rattle.layout.proofs.Reading.{absent_controller, present_controller, present_slot, ready}
 use Rattle.layout.proofs.Lens.{shaped, with_slot}

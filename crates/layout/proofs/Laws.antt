@@ -14,7 +14,7 @@ use Rattle.model.specs.Octets.{Octets, le16, used_part}
 use Rattle.model.specs.State.{name_part}
 use Rattle.model.specs.Hub.{with_open}
 use Rattle.model.specs.Layout.{decode, encode, settings_part}
-use Rattle.model.specs.Proof.Names.{length_used}
+use Rattle.model.proofs.Model.Names.{length_used}
 use Rattle.octets.specs.Parts.{part, place_at, write_at}
 use Rattle.octets.proofs.Parts.{part_first, part_part, write_split}
 use Rattle.layout.specs.Places.{Ready, base, controller_of, place_of, put_controller, settings_head, sizes, table_place}

@@ -19,16 +19,16 @@ use Rattle.model.specs.Image.{radio_ok}
 use Rattle.model.specs.WellFormed.{advertising_ok, controller_ok, plain_ok, slot_is_ok, slots_ok, table_ok, tables_ok, well_formed}
 use Rattle.model.specs.Layout.{advertising_part, data_part, schedule_part}
 use Rattle.model.specs.Layout.{block, blocks, controller_part, encode, hardware_part, open_part, region, regions, settings_part, waiting_part}
-use Rattle.model.specs.Proof.Decode.{length_region}
-use Rattle.model.specs.Proof.Advertising.{five_each}
-use Rattle.model.specs.Proof.Layout.{length_block, length_data, length_open, length_schedule}
-use Rattle.model.specs.Proof.Parts.{controller_fit}
-use Rattle.model.specs.Proof.Stays.{plain_fit}
-use Rattle.model.specs.Proof.Tests.{and_true, equal, no_way}
+use Rattle.model.proofs.Model.Decode.{length_region}
+use Rattle.model.proofs.Model.Advertising.{five_each}
+use Rattle.model.proofs.Model.Layout.{length_block, length_data, length_open, length_schedule}
+use Rattle.model.proofs.Model.Parts.{controller_fit}
+use Rattle.model.proofs.Model.Stays.{plain_fit}
+use Rattle.model.proofs.Model.Tests.{and_true, equal, no_way}
 use Rattle.octets.specs.Parts.{part, place_at, write_at}
 use Rattle.octets.proofs.Parts.{join, join_read, join_write, length_write_at, lengths, part_left, part_right, write_left, write_right, write_whole}
 use Rattle.layout.specs.Places.{base, place_of, sizes}
-use Rattle.model.specs.Proof.Keeps.{opens_length, well_fit}
+use Rattle.model.proofs.Model.Keeps.{opens_length, well_fit}
 
 -- 1. The pieces of a block, and the blocks of the state -----------------------------------------------------------------------------------------
 

@@ -15,8 +15,8 @@ use Rattle.model.specs.Commands.{rule}
 use Rattle.model.specs.Hub.{starts, with_open}
 use Rattle.model.specs.WellFormed.{open_ok}
 use Rattle.model.specs.Layout.{decode, encode, open_back, open_part, open_with, size_of}
-use Rattle.model.specs.Proof.Decode.{Started, started_by}
-use Rattle.model.specs.Proof.Tests.{and_true}
+use Rattle.model.proofs.Model.Decode.{Started, started_by}
+use Rattle.model.proofs.Model.Tests.{and_true}
 use Rattle.octets.specs.Parts.{part, place_at, write_at}
 use Rattle.octets.proofs.Parts.{get_d_part, part_part, write_split}
 use Rattle.layout.specs.Places.{Ready, base, controller_of, open_at, place_of, sizes}

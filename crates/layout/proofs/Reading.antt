@@ -15,12 +15,12 @@ use Rattle.model.specs.declared.Settings.{Settings}
 use Rattle.model.specs.Octets.{Octets, u16, u32}
 use Rattle.model.specs.State.{Controller, controller_at, settings_of}
 use Rattle.model.specs.Layout.{controller_back, controller_in, controllers_in, decode, open_back, open_in, opens_in}
-use Rattle.model.specs.Proof.Tests.{and_true}
+use Rattle.model.proofs.Model.Tests.{and_true}
 use Rattle.octets.specs.Parts.{part, place_at}
 use Rattle.octets.proofs.Parts.{get_d_part, part_part}
 use Rattle.layout.specs.Places.{Ready, base, controller_of, open_at, place_of, present_at, sizes}
 use Rattle.model.specs.Meanings.{state_ok}
-use Rattle.model.specs.Proof.Demand3.{state_long}
+use Rattle.model.proofs.Model.Demand3.{state_long}
 
 -- 1. The blocks of the decoded state ----------------------------------------------------------------------------------------------------------
 

@@ -16,12 +16,12 @@ use Rattle.model.specs.State.{Table, settings_of, table_of, with_host, with_tabl
 use Rattle.model.specs.Tables.{TableRule, blocked_rule, chop, device_rule, entries, every, identity_key_rule, link_key_rule, long_term_key_rule, table_rules, uuid_rule}
 use Rattle.model.specs.WellFormed.{table_ok, tables_ok}
 use Rattle.model.specs.Layout.{decode, encode, region, slot_octets, table_back}
-use Rattle.model.specs.Proof.Decode.{table_back_lem}
-use Rattle.model.specs.Proof.Region.{Sized}
-use Rattle.model.specs.Proof.Parts.{controller_fit, table_changed, table_ok_lem}
+use Rattle.model.proofs.Model.Decode.{table_back_lem}
+use Rattle.model.proofs.Model.Region.{Sized}
+use Rattle.model.proofs.Model.Parts.{controller_fit, table_changed, table_ok_lem}
 use Rattle.model.specs.Tables.{rule_at}
-use Rattle.model.specs.Proof.Tables.{table_fit}
-use Rattle.model.specs.Proof.Tests.{and_true, equal, no_way}
+use Rattle.model.proofs.Model.Tables.{table_fit}
+use Rattle.model.proofs.Model.Tests.{and_true, equal, no_way}
 use Rattle.octets.specs.Parts.{part, place_at, write_at}
 use Rattle.octets.proofs.Parts.{drop_take, u32_part}
 use Rattle.layout.specs.Places.{Ready, controller_of, open_at, place_of, put_controller, sizes, table_place}

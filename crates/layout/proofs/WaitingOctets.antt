@@ -17,10 +17,10 @@ use Rattle.model.specs.Stream.{grown, kept_count, length_said, waiting_at}
 use Rattle.model.specs.WellFormed.{plain_ok}
 use Rattle.model.specs.Layout.{decode, encode, line_cleared, waiting_back, waiting_part}
 use Rattle.model.specs.Meanings.{state_ok}
-use Rattle.model.specs.Proof.Demand3.{state_back, state_well}
-use Rattle.model.specs.Proof.Keeps.{well_fit}
-use Rattle.model.specs.Proof.Layout.{before, encode_split, length_before, length_waiting}
-use Rattle.model.specs.Proof.WaitingOctets.{WaitingFit, count_few, count_head, count_more, count_room, count_whole, kept_count_lem, kept_fits, padded, waiting_fit}
+use Rattle.model.proofs.Model.Demand3.{state_back, state_well}
+use Rattle.model.proofs.Model.Keeps.{well_fit}
+use Rattle.model.proofs.Model.Layout.{before, encode_split, length_before, length_waiting}
+use Rattle.model.proofs.Model.WaitingOctets.{WaitingFit, count_few, count_head, count_more, count_room, count_whole, kept_count_lem, kept_fits, padded, waiting_fit}
 use Rattle.octets.specs.Parts.{part, write_at}
 use Rattle.octets.proofs.Parts.{write_front, write_left, write_right, write_split, write_whole}
 

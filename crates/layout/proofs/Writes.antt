@@ -11,8 +11,8 @@ use Rattle.model.specs.declared.Settings.{Settings}
 use Rattle.model.specs.Octets.{Octets, le16}
 use Rattle.model.specs.Commands.{words}
 use Rattle.model.specs.Layout.{data_back, data_part, schedule_part, settings_part}
-use Rattle.model.specs.Proof.Layout.{length_words}
-use Rattle.model.specs.Proof.Tests.{Five, five, five_of}
+use Rattle.model.proofs.Model.Layout.{length_words}
+use Rattle.model.proofs.Model.Tests.{Five, five, five_of}
 use Rattle.octets.specs.Parts.{part, write_at}
 use Rattle.octets.proofs.Parts.{drop_take, get_d_part, part_part, write_split}
 use Rattle.layout.specs.Places.{settings_head}

@@ -14,8 +14,8 @@ use Rattle.model.specs.Octets.{Octets}
 use Rattle.model.specs.Reasons.{passes}
 use Rattle.model.specs.Tables.{TableRule, blocked_rule, chop, device_rule, distinct, identity_key_rule, link_key_rule, long_term_key_rule, table_rules}
 use Rattle.model.specs.Tables.{rule_at}
-use Rattle.model.specs.Proof.Tables.{bytes_drop, length_chop, slice_bytes}
-use Rattle.model.specs.Proof.Tests.{no_way}
+use Rattle.model.proofs.Model.Tables.{bytes_drop, length_chop, slice_bytes}
+use Rattle.model.proofs.Model.Tests.{no_way}
 use Rattle.octets.specs.Parts.{part}
 use Rattle.octets.specs.Numbers.{little}
 use Rattle.records.specs.Identities.{among, apart, identity_of, same_identity, words_of}

@@ -25,16 +25,3 @@ pub mod Written
 pub mod Demand3
 pub mod Cutting
 pub mod Fairness
-pub mod Examples
-pub mod EasyErrors
-pub mod LazyPrograms
-pub mod Rotation
-pub mod StaticAddresses
-pub mod WalkedSlots
-pub mod LowEnergyAlone
-pub mod SerialLine
-pub mod ImageExamples
-pub mod FaultExamples
-pub mod Proof
-pub mod Theorems
-pub mod FaultTheorems

@@ -15,8 +15,8 @@ use Rattle.model.specs.State.{Controller, Table}
 use Rattle.model.specs.Tables.{table_rules}
 use Rattle.model.specs.Image.{can_say, controller_image, controller_images, has_image, slot_in_image}
 use Rattle.model.specs.Reading.{Slots, controller_by, goes_on, hub_of, items, nothing_dropped, walk, walk_controllers}
-use Rattle.model.specs.Proof.SavedAgain.{free_set, get_d_nones, images_set}
-use Rattle.model.specs.Proof.Tables.{bytes_drop}
+use Rattle.model.proofs.Model.SavedAgain.{free_set, get_d_nones, images_set}
+use Rattle.model.proofs.Model.Tables.{bytes_drop}
 use Rattle.octets.specs.Parts.{write_at}
 use Rattle.octets.proofs.Parts.{write_split}
 use Rattle.fields.specs.Places.{fixed_end, hardware_in, settings_in}

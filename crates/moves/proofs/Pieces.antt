@@ -20,11 +20,11 @@ use Rattle.model.specs.Tables.{TableRule, table_rules}
 use Rattle.model.specs.Image.{bredr_as_supported, bredr_flag, can_say, controller_image, flag_word, flags_of, name_image, name_read, name_right, name_size, names_image}
 use Rattle.model.specs.Image.{padded, table_image}
 use Rattle.model.specs.Reading.{controller_by, fixed_by, goes_on, hardware_by, walk_tables}
-use Rattle.model.specs.Proof.Fixed.{names_out, one_octet}
-use Rattle.model.specs.Proof.Numbers.{be16_again, be32_again}
-use Rattle.model.specs.Proof.SavedAgain.{tables_again}
-use Rattle.model.specs.Proof.Tables.{bytes_drop, bytes_take}
-use Rattle.model.specs.Proof.Tests.{and_true}
+use Rattle.model.proofs.Model.Fixed.{names_out, one_octet}
+use Rattle.model.proofs.Model.Numbers.{be16_again, be32_again}
+use Rattle.model.proofs.Model.SavedAgain.{tables_again}
+use Rattle.model.proofs.Model.Tables.{bytes_drop, bytes_take}
+use Rattle.model.proofs.Model.Tests.{and_true}
 use Rattle.octets.specs.Parts.{part, write_at}
 use Rattle.octets.proofs.Parts.{drop_take, length_part, write_split}
 use Rattle.octets.proofs.Laws.{lent_part, part_add, take_used}

@@ -15,9 +15,9 @@ use Rattle.model.specs.State.{PlainHub}
 use Rattle.model.specs.Image.{has_image, image_of, version_octet}
 use Rattle.model.specs.Reading.{acceptable, faulty, hub_of, items, judge, only, walk}
 use Rattle.model.specs.Moves.{Moved, only_answer, rewritten, with_room, writes}
-use Rattle.model.specs.Proof.Load.{kept_ok, only_by}
-use Rattle.model.specs.Proof.RoundTrip.{image_most}
-use Rattle.model.specs.Proof.Tables.{bytes_drop}
+use Rattle.model.proofs.Model.Load.{kept_ok, only_by}
+use Rattle.model.proofs.Model.RoundTrip.{image_most}
+use Rattle.model.proofs.Model.Tables.{bytes_drop}
 use Rattle.octets.specs.Parts.{write_at}
 use Rattle.octets.proofs.Parts.{write_front}
 use Rattle.image.proofs.SaveLaws.{head_written}

@@ -11,7 +11,7 @@ use lib.Seq.{drop-cons, take-add, drop-drop}
 use lib.Dec.{eqb}
 use borrow.Author.Tests.{eq-eqb, ne_eqb}
 use Rattle.model.specs.Octets.{Octets, u16, u32, number, same, used_part}
-use Rattle.model.specs.Proof.Tests.{either}
+use Rattle.model.proofs.Model.Tests.{either}
 use Rattle.octets.specs.Parts.{part, write_at}
 
 -- READING -------------------------------------------------------------------------------------------------------------------------------------

@@ -8,8 +8,8 @@ use lib.ListN.{length, get_or}
 use lib.Dec.{eqb, ltb}
 use borrow.Author.Tests.{eq-eqb, ne_eqb, eqb-true, eqb-false}
 use Rattle.model.specs.Octets.{Octets, all_zero, bytes, u16, u32}
-use Rattle.model.specs.Proof.Tables.{byte_at}
-use Rattle.model.specs.Proof.Tests.{and_off, and_true}
+use Rattle.model.proofs.Model.Tables.{byte_at}
+use Rattle.model.proofs.Model.Tests.{and_off, and_true}
 use Rattle.octets.specs.Parts.{part}
 use Rattle.octets.specs.Numbers.{little}
 use Rattle.octets.proofs.Laws.{part_add, part_suc}

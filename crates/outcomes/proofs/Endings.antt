@@ -20,7 +20,7 @@ use Rattle.model.specs.Hub.{Outcome, finished, refused, anyway, keep, with_open,
 use Rattle.model.specs.Hub.{command_out, refusal_form, immediate_at, immediate_done, radio_at, radio_before_busy, radio_after_busy, acted}
 use Rattle.model.specs.Layout.{encode, decode}
 use Rattle.model.specs.Meanings.{state_ok, laid_out}
-use Rattle.model.specs.Proof.Demand3.{state_back}
+use Rattle.model.proofs.Model.Demand3.{state_back}
 use Rattle.octets.specs.Parts.{write_at}
 use Rattle.octets.proofs.Parts.{write_front}
 use Rattle.layout.specs.Places.{Ready, controller_of, open_at, put_controller}
@@ -29,7 +29,7 @@ use Rattle.replies.specs.Answers.{Gives}
 use Rattle.model.specs.declared.Answer.{Answer}
 use Rattle.model.specs.declared.Answer.TheVariants.{Done, Started, Refused}
 use Rattle.outcomes.specs.Outcomes.{ended, immediate_command, radio_command}
-use Rattle.model.specs.Proof.Room.{length_complete, length_status}
+use Rattle.model.proofs.Model.Room.{length_complete, length_status}
 
 -- 1. Any outcome ------------------------------------------------------------------------------------------------------------------------------
 

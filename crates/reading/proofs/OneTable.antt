@@ -21,9 +21,9 @@ use Rattle.model.specs.Reasons.{passes}
 use Rattle.model.specs.Tables.{TableRule, any, blocked_rule, chop, device_rule, empty, distinct, every, identity_key_rule, link_key_rule, long_term_key_rule}
 use Rattle.model.specs.Tables.{record_ok, records_ok, rule_at, support_ok, table_rules, uuid_rule}
 use Rattle.model.specs.Reading.{Walk, also, cut, fault_at, goes_on, item_at, not_whole, nothing_dropped, record_fault, walk_records, walk_table}
-use Rattle.model.specs.Proof.RoundTrip.{fault_free, records_back}
-use Rattle.model.specs.Proof.Tables.{bytes_drop, bytes_take, length_chop}
-use Rattle.model.specs.Proof.Tests.{and_off, and_true}
+use Rattle.model.proofs.Model.RoundTrip.{fault_free, records_back}
+use Rattle.model.proofs.Model.Tables.{bytes_drop, bytes_take, length_chop}
+use Rattle.model.proofs.Model.Tests.{and_off, and_true}
 use Rattle.octets.specs.Parts.{part}
 use Rattle.octets.proofs.Parts.{length_part}
 use Rattle.records.specs.declared.Identity.{Identity}

@@ -19,11 +19,11 @@ use Rattle.model.specs.Reading.{End, Fixed, Item, Reading, Slots, Walk, also, be
 use Rattle.model.specs.Reading.{index_right, items, kept_then, nothing_dropped, record_fault, right, short, table_then, walk_controllers, walk_records, walk_table}
 use Rattle.model.specs.Reading.{walk_tables, wrong}
 use Rattle.model.specs.WellFormed.{controller_ok, table_ok, tables_ok}
-use Rattle.model.specs.Proof.Fields.{le_of}
-use Rattle.model.specs.Proof.Fixed.{fixed_right}
-use Rattle.model.specs.Proof.Load.{end_bytes, tables_kept}
-use Rattle.model.specs.Proof.SavedAgain.{Through, controllers_cut, none_of, tables_cut, through}
-use Rattle.model.specs.Proof.Tests.{and_true, either, optional}
+use Rattle.model.proofs.Model.Fields.{le_of}
+use Rattle.model.proofs.Model.Fixed.{fixed_right}
+use Rattle.model.proofs.Model.Load.{end_bytes, tables_kept}
+use Rattle.model.proofs.Model.SavedAgain.{Through, controllers_cut, none_of, tables_cut, through}
+use Rattle.model.proofs.Model.Tests.{and_true, either, optional}
 use Rattle.fields.specs.Places.{fixed_end, fixed_in, hardware_in}
 use Rattle.fields.proofs.Says.{FieldsRight, fixed_low, fixed_rules, fixed_says}
 use Rattle.reading.specs.Contents.{Parsed, Placed, clean, clean_by, controller_in, placed_by, placed_in, tables_in}

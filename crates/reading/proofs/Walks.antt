@@ -20,8 +20,8 @@ use Rattle.model.specs.Tables.{TableRule, rule_at, table_rules, uuid_rule}
 use Rattle.model.specs.Reading as Reading
 use Rattle.model.specs.Reading.{End, Fixed, Item, Reading, Slots, Walk, also, before, controller_by, controller_then, cut, fixed_by, fixed_part, goes_on}
 use Rattle.model.specs.Reading.{hardware_by, index_right, item_at, kept_then, nothing_dropped, right, short, table_then, walk, walk_controllers, walk_table, walk_tables, wrong}
-use Rattle.model.specs.Proof.Fields.{le_of}
-use Rattle.model.specs.Proof.Tests.{and_true}
+use Rattle.model.proofs.Model.Fields.{le_of}
+use Rattle.model.proofs.Model.Tests.{and_true}
 use Rattle.octets.specs.Parts.{part}
 use Rattle.fields.specs.Places.{fixed_in, hardware_in}
 use Rattle.fields.specs.Reads.{Begins, Reads, fault_of}

@@ -13,8 +13,8 @@ use borrow.Author.Tests.{eq-eqb}
 use Rattle.model.specs.Octets.{Octets, bytes, octet, same}
 use Rattle.model.specs.Tables.{any, chop, distinct, entries, every, rule_at, table_rules}
 use Rattle.model.specs.Tables.{blocked_rule, device_rule, identity_key_rule, link_key_rule, long_term_key_rule, uuid_rule}
-use Rattle.model.specs.Proof.Tables.{bytes_drop, bytes_take, byte_at, eqb_self, lt_true, same_eq, same_refl}
-use Rattle.model.specs.Proof.Tests.{and_true, both, equal}
+use Rattle.model.proofs.Model.Tables.{bytes_drop, bytes_take, byte_at, eqb_self, lt_true, same_eq, same_refl}
+use Rattle.model.proofs.Model.Tests.{and_true, both, equal}
 use Rattle.octets.specs.Parts.{part}
 use Rattle.octets.proofs.Parts.{drop_take, get_d_part}
 use Rattle.octets.specs.Numbers.{little}

@@ -10,7 +10,7 @@ use lib.ListN.{length, get_or, replicate, set, take, get_or-replicate, length-ma
 use lib.Seq.{append_snoc, get_or-set_same, get_or-set_other, get_or-take, length-take-le, take-set-le, take-suc-set}
 use lib.Dec.{eqb, leb, ltb}
 use borrow.Author.Tests.{eq-eqb, ne_eqb, eqb-true, eqb-false, le-ltb, leb-true, leb-false, lt-ltb, ltb-true, ltb-false}
-use Rattle.model.specs.Proof.Tests.{and_true, or_false, or_true}
+use Rattle.model.proofs.Model.Tests.{and_true, or_false, or_true}
 use Rattle.records.specs.declared.Identity.{Identity}
 use Rattle.records.specs.Identities.{among, apart, same_identity}
 use Rattle.records.specs.Marks.{Doubled, Marked, mark_of, meet_any, meet_at, meet_from, meet_within, reach_of, with_mark}

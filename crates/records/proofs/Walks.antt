@@ -11,7 +11,7 @@ use lib.Seq.{append_snoc, drop-cons, get_or-take, length-take-le, take-suc-set}
 use Rattle.model.specs.Octets.{Octets, all_zero}
 use Rattle.model.specs.Reasons.{passes}
 use Rattle.model.specs.Tables.{every, record_ok, rule_at}
-use Rattle.model.specs.Proof.Tests.{and_off, both, no_way}
+use Rattle.model.proofs.Model.Tests.{and_off, both, no_way}
 use Rattle.octets.specs.Parts.{part}
 use Rattle.records.specs.declared.Identity.{Identity}
 use Rattle.records.specs.Slots.{free_zero, records_at}

@@ -18,7 +18,7 @@ use Rattle.replies.specs.Frames.{event_head, complete_head, changed_event, setti
 use Rattle.model.specs.Answers.{number_of, count_of}
 use Rattle.replies.specs.Answers.{Gives}
 use Rattle.model.specs.declared.Answer.{Answer}
-use Rattle.model.specs.Proof.Room.{length_le16, length_le32}
+use Rattle.model.proofs.Model.Room.{length_le16, length_le32}
 
 -- LENGTHS -------------------------------------------------------------------------------------------------------------------------------------
 

@@ -21,11 +21,11 @@ use Rattle.model.specs.WellFormed.{controller_ok, hardware_wide, tables_ok, time
 use Rattle.model.specs.Hub.{under_way}
 use Rattle.model.specs.Layout.{decode, encode}
 use Rattle.model.specs.Meanings.{state_ok}
-use Rattle.model.specs.Proof.Demand3.{state_well}
-use Rattle.model.specs.Proof.Parts.{controller_fit, fit_controller, fit_widths, lengths, tables_many, widths_fit}
-use Rattle.model.specs.Proof.Stays.{plugged_ok}
-use Rattle.model.specs.Proof.Tables.{bytes_drop}
-use Rattle.model.specs.Proof.Tests.{both}
+use Rattle.model.proofs.Model.Demand3.{state_well}
+use Rattle.model.proofs.Model.Parts.{controller_fit, fit_controller, fit_widths, lengths, tables_many, widths_fit}
+use Rattle.model.proofs.Model.Stays.{plugged_ok}
+use Rattle.model.proofs.Model.Tables.{bytes_drop}
+use Rattle.model.proofs.Model.Tests.{both}
 use Rattle.rules.specs.Effects.{with_settings}
 use Rattle.layout.specs.Places.{Ready, controller_of, open_at, present_at, put_controller}
 use Rattle.layout.proofs.Reading.{absent_open}

@@ -14,11 +14,11 @@ use Rattle.model.specs.Reading.{nothing_dropped, walk_tables}
 use Rattle.model.specs.Hub.{under_way}
 use Rattle.model.specs.WellFormed.{controller_ok, open_ok, table_ok, well_formed}
 use Rattle.model.specs.Layout.{decode, encode, region}
-use Rattle.model.specs.Proof.Decode.{decode_encode}
-use Rattle.model.specs.Proof.Demand3.{state_back, state_well}
-use Rattle.model.specs.Proof.Parts.{table_changed}
-use Rattle.model.specs.Proof.Tables.{bytes_drop}
-use Rattle.model.specs.Proof.Tests.{no_way}
+use Rattle.model.proofs.Model.Decode.{decode_encode}
+use Rattle.model.proofs.Model.Demand3.{state_back, state_well}
+use Rattle.model.proofs.Model.Parts.{table_changed}
+use Rattle.model.proofs.Model.Tables.{bytes_drop}
+use Rattle.model.proofs.Model.Tests.{no_way}
 use Rattle.octets.specs.Parts.{write_at}
 use Rattle.layout.specs.Places.{Ready, controller_of, open_at, put_controller, table_place}
 use Rattle.layout.proofs.Reading.{present_slot}

@@ -16,10 +16,10 @@ use Rattle.model.specs.Reading.{Slots, goes_on, hub_of, items, nothing_dropped, 
 use Rattle.model.specs.WellFormed.{controller_ok, plain_ok, slot_is_ok, slots_ok, well_formed}
 use Rattle.model.specs.Layout.{decode, encode}
 use Rattle.model.specs.Meanings.{state_ok}
-use Rattle.model.specs.Proof.Decode.{decode_encode}
-use Rattle.model.specs.Proof.Demand3.{encode_ok, idle_ok}
-use Rattle.model.specs.Proof.Stays.{fit_plain, plain_fit, slots_set}
-use Rattle.model.specs.Proof.Tables.{bytes_drop}
+use Rattle.model.proofs.Model.Decode.{decode_encode}
+use Rattle.model.proofs.Model.Demand3.{encode_ok, idle_ok}
+use Rattle.model.proofs.Model.Stays.{fit_plain, plain_fit, slots_set}
+use Rattle.model.proofs.Model.Tables.{bytes_drop}
 use Rattle.layout.specs.Places.{present_at, put_controller}
 use Rattle.layout.proofs.Kept.{encode_absent}
 use Rattle.reading.specs.Contents.{Parsed, Placed, controller_in}

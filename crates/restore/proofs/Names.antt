@@ -14,7 +14,7 @@ use Rattle.model.specs.Octets.{Octets, octet}
 use Rattle.model.specs.Image.{name_read, name_right, name_size, padded}
 use Rattle.model.specs.State.{with_host, with_name}
 use Rattle.model.specs.Layout.{decode, encode}
-use Rattle.model.specs.Proof.Tests.{and_true}
+use Rattle.model.proofs.Model.Tests.{and_true}
 use Rattle.octets.specs.Parts.{part, write_at}
 use Rattle.octets.proofs.Parts.{length_part, length_write_at, write_front, write_left, write_right}
 use Rattle.layout.specs.Places.{controller_of, put_controller}

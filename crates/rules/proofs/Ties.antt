@@ -14,8 +14,8 @@ use Rattle.model.specs.declared.Reason.{Reason}
 use Rattle.model.specs.Rules.{RadioRule, radio, on, set_powered, set_discoverable, set_bredr, set_connectable, set_low_energy, set_static_address}
 use Rattle.model.specs.Hub.{starts_by, countdown, tick}
 use Rattle.model.specs.WellFormed.{advertising_ok, controller_ok, timer_ok}
-use Rattle.model.specs.Proof.Advertising.{five_each, rescheduled_same}
-use Rattle.model.specs.Proof.Parts.{controller_fit}
+use Rattle.model.proofs.Model.Advertising.{five_each, rescheduled_same}
+use Rattle.model.proofs.Model.Parts.{controller_fit}
 use Rattle.rules.specs.Decisions.{wait_or_act, after_busy_of, before_busy_of, decision, is_started, settings_ok}
 use Rattle.rules.specs.Effects.{with_settings, with_turns, controller_of, controller_with, settings_effect, settings_timer, settings_bondable}
 use Rattle.rules.specs.Effects.{turns_effect}

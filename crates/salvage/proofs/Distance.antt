@@ -19,10 +19,10 @@ use Rattle.model.specs.Image.{name_read, name_right, name_size}
 use Rattle.model.specs.Reading.{◌>>=◌, End, Fixed, Reader, Reading, Slots, Walk, also, before, controller_then, cut, field, fixed_part, give, go_on, goes_on, item_at}
 use Rattle.model.specs.Reading.{kept_then, name_field, nothing_dropped, record_fault, right, short, spoilt, table_then, walk, walk_controllers, walk_records, walk_table}
 use Rattle.model.specs.Reading.{walk_tables, wrong}
-use Rattle.model.specs.Proof.Fields.{le_of}
-use Rattle.model.specs.Proof.Load.{end_bytes, tables_kept}
-use Rattle.model.specs.Proof.Tables.{bytes_drop}
-use Rattle.model.specs.Proof.Tests.{and_true, either, optional}
+use Rattle.model.proofs.Model.Fields.{le_of}
+use Rattle.model.proofs.Model.Load.{end_bytes, tables_kept}
+use Rattle.model.proofs.Model.Tables.{bytes_drop}
+use Rattle.model.proofs.Model.Tests.{and_true, either, optional}
 use Rattle.salvage.proofs.Dropped.{AllSized, all_sized, left_of}
 
 -- 1. Fields -------------------------------------------------------------------------------------------------------------------------------------

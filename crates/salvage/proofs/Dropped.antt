@@ -11,9 +11,9 @@ use Rattle.model.specs.Octets.{Octets}
 use Rattle.model.specs.Tables.{TableRule, blocked_rule, device_rule, identity_key_rule, link_key_rule, long_term_key_rule, table_rules, uuid_rule}
 use Rattle.model.specs.Reading.{End, Fixed, Item, Reading, Slots, Walk, also, before, controller_then, cut, fixed_part, goes_on, item_at, kept_then, nothing_dropped}
 use Rattle.model.specs.Reading.{record_fault, right, short, table_then, walk, walk_controllers, walk_records, walk_table, walk_tables, wrong}
-use Rattle.model.specs.Proof.Fields.{Behind, Leaves, le_of}
-use Rattle.model.specs.Proof.Fixed.{fixed_leaves}
-use Rattle.model.specs.Proof.Tests.{either, optional}
+use Rattle.model.proofs.Model.Fields.{Behind, Leaves, le_of}
+use Rattle.model.proofs.Model.Fixed.{fixed_leaves}
+use Rattle.model.proofs.Model.Tests.{either, optional}
 
 -- how many octets are left where a walk ends
 unfoldable pub left_of : End → ℕ

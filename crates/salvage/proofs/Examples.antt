@@ -11,9 +11,9 @@ use Rattle.model.specs.Reasons.{open_reasons}
 use Rattle.model.specs.Tables.{open_tables}
 use Rattle.model.specs.Image.{open_image}
 use Rattle.model.specs.Reading.{open_reading}
-use Rattle.model.specs.Examples.{Example, all_given, gives}
-use Rattle.model.specs.ImageExamples.{both_on, dual, hi, le_on, le_only}
-use Rattle.model.specs.FaultExamples.{blocked, controller, device, image_of_parts, no_records, no_static, plain, usual, with_octet, with_tables}
+use Rattle.model.proofs.Examples.{Example, all_given, gives}
+use Rattle.model.proofs.ImageExamples.{both_on, dual, hi, le_on, le_only}
+use Rattle.model.proofs.FaultExamples.{blocked, controller, device, image_of_parts, no_records, no_static, plain, usual, with_octet, with_tables}
 use Rattle.salvage.specs.Salvage.{Salvaged, hub_salvage, open_salvage}
 
 -- an image of version 2 with these controllers

@@ -14,12 +14,12 @@ use Rattle.model.specs.Octets.{Octets, be32, bytes, joined, number, octet}
 use Rattle.model.specs.State.{PlainHub}
 use Rattle.model.specs.Image.{image_of, reloaded_hub, version_octet}
 use Rattle.model.specs.Reading.{Item, either_version, hub_of, items, walk}
-use Rattle.model.specs.Proof.Fields.{le_of, leb_of}
-use Rattle.model.specs.Proof.Load.{Accepted, either_takes, kept_ok, walk_kept}
-use Rattle.model.specs.Proof.RoundTrip.{saved_accepted}
-use Rattle.model.specs.Proof.SavedAgain.{through, walk_again, written_again}
-use Rattle.model.specs.Proof.Tables.{bytes_drop}
-use Rattle.model.specs.Proof.Tests.{either}
+use Rattle.model.proofs.Model.Fields.{le_of, leb_of}
+use Rattle.model.proofs.Model.Load.{Accepted, either_takes, kept_ok, walk_kept}
+use Rattle.model.proofs.Model.RoundTrip.{saved_accepted}
+use Rattle.model.proofs.Model.SavedAgain.{through, walk_again, written_again}
+use Rattle.model.proofs.Model.Tables.{bytes_drop}
+use Rattle.model.proofs.Model.Tests.{either}
 use Rattle.salvage.specs.Salvage.{Salvaged, begins_at, hub_salvage, length_item, list_more, list_of, offsets, only_answer, salvaged_as}
 
 -- what is known where salvage was answered 0

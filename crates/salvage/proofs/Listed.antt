@@ -9,9 +9,9 @@ use lib.Dec.{eqb}
 use Rattle.model.specs.declared.Version.{Version}
 use Rattle.model.specs.Octets.{Octets, be32, bytes, joined, number}
 use Rattle.model.specs.Reading.{End, Item, Slots, Walk, cut, goes_on, item_at, items, last_item, walk}
-use Rattle.model.specs.Proof.Numbers.{be32_back}
-use Rattle.model.specs.Proof.Tables.{bytes_drop}
-use Rattle.model.specs.Proof.Tests.{either}
+use Rattle.model.proofs.Model.Numbers.{be32_back}
+use Rattle.model.proofs.Model.Tables.{bytes_drop}
+use Rattle.model.proofs.Model.Tests.{either}
 use Rattle.salvage.specs.Salvage.{begins_at, length_item, list_more, list_of, offsets}
 use Rattle.salvage.proofs.Dropped.{Falls, falls_many, left_of, none_here, one_here, walk_fall}
 use Rattle.salvage.proofs.Distance.{walk_far}

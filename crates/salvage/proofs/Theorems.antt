@@ -17,13 +17,13 @@ use Rattle.model.specs.Image.{reloaded_hub}
 use Rattle.model.specs.Reading.{either_version, hub_of, load, walk}
 use Rattle.model.specs.Layout.{encode}
 use Rattle.model.specs.Meanings.{Loaded, hub_load}
-use Rattle.model.specs.FaultTheorems.{taken_image_loads}
-use Rattle.model.specs.Proof.Demand3.{taken}
-use Rattle.model.specs.Proof.Fields.{le_of}
-use Rattle.model.specs.Proof.Load.{Accepted, either_sound, kept_ok, loaded_by, loads_by}
-use Rattle.model.specs.Proof.RoundTrip.{image_bytes, image_most}
-use Rattle.model.specs.Proof.Tables.{bytes_drop}
-use Rattle.model.specs.Proof.Tests.{either}
+use Rattle.model.proofs.FaultTheorems.{taken_image_loads}
+use Rattle.model.proofs.Model.Demand3.{taken}
+use Rattle.model.proofs.Model.Fields.{le_of}
+use Rattle.model.proofs.Model.Load.{Accepted, either_sound, kept_ok, loaded_by, loads_by}
+use Rattle.model.proofs.Model.RoundTrip.{image_bytes, image_most}
+use Rattle.model.proofs.Model.Tables.{bytes_drop}
+use Rattle.model.proofs.Model.Tests.{either}
 use Rattle.salvage.specs.Salvage.{Salvaged, extra_of, hub_salvage, list_more, offsets, only_answer, salvaged_as}
 use Rattle.salvage.proofs.Listed.{item_is, item_in, list_facts, list_fits_lem, list_length, rising_bounds, rising_less}
 use Rattle.salvage.proofs.Kept.{accepted_same, empty_accepted, kept_accepted, was_salvaged}

@@ -26,7 +26,7 @@ use Rattle.model.specs.Immediate.{set_bondable, sized}
 use Rattle.model.specs.Hub.{with_open}
 use Rattle.model.specs.WellFormed.{controller_ok}
 use Rattle.model.specs.Layout.{encode, decode}
-use Rattle.model.specs.Proof.Tests.{no_way}
+use Rattle.model.proofs.Model.Tests.{no_way}
 use Rattle.octets.specs.Parts.{write_at}
 use Rattle.layout.specs.Places.{Ready, controller_of, place_of, put_controller}
 use Rattle.layout.proofs.Change.{controller_fine}

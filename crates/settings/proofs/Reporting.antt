@@ -24,7 +24,7 @@ use Rattle.model.specs.Hub.{bad_argument, keep, with_open, answer_of, octets_of,
 use Rattle.model.specs.WellFormed.{controller_ok, open_ok}
 use Rattle.model.specs.Layout.{encode, decode, opens_in, size_of}
 use Rattle.model.specs.Meanings.{state_ok, laid_out}
-use Rattle.model.specs.Proof.Tests.{and_true, equal, no_way}
+use Rattle.model.proofs.Model.Tests.{and_true, equal, no_way}
 use Rattle.octets.specs.Parts.{part, place_at, write_at}
 use Rattle.layout.specs.Places.{Ready, controller_of, open_at, place_of, present_at, put_controller, sizes}
 use Rattle.layout.proofs.Reading.{absent_open, present_controller}
@@ -42,7 +42,7 @@ use Rattle.settings.specs.Opens.{Opens, opens_powered, opens_discoverable, opens
 use Rattle.settings.specs.Turns.{acted_controller, acted_reply, schedule_of}
 use Rattle.settings.proofs.Turns.{Acts, acted_short, powered_acts, discoverable_acts, connectable_acts, low_energy_acts, bredr_acts}
 use Rattle.settings.proofs.Bridge.{acted_is}
-use Rattle.model.specs.Proof.Room.{length_status}
+use Rattle.model.proofs.Model.Room.{length_status}
 
 -- 1. Which command can be under way ---------------------------------------------------------------------------------------------------------------
 

@@ -18,10 +18,10 @@ use Rattle.model.specs.State.{Controller, current_settings, settings_of, with_ho
 use Rattle.model.specs.State.{with_bredr, with_static_address}
 use Rattle.model.specs.Rules.{RadioRule, on, same_bool, set_powered, set_discoverable, set_connectable, set_low_energy, set_bredr, set_static_address}
 use Rattle.model.specs.WellFormed.{controller_ok, schedule_ok, times_fit, times_ok, turn_ok}
-use Rattle.model.specs.Proof.Tests.{and_true, equal, no_way, not-false, not-true}
-use Rattle.model.specs.Proof.Schedule.{schedule_fit, off_while_off, times_many}
-use Rattle.model.specs.Proof.Advertising.{advertising_fit, none_removed, rescheduled_same}
-use Rattle.model.specs.Proof.Parts.{controller_fit}
+use Rattle.model.proofs.Model.Tests.{and_true, equal, no_way, not-false, not-true}
+use Rattle.model.proofs.Model.Schedule.{schedule_fit, off_while_off, times_many}
+use Rattle.model.proofs.Model.Advertising.{advertising_fit, none_removed, rescheduled_same}
+use Rattle.model.proofs.Model.Parts.{controller_fit}
 use Rattle.rules.specs.Effects as Effects
 use Rattle.rules.specs.Effects.{with_settings, with_turns, controller_with, settings_effect, turns_effect}
 use Rattle.rules.proofs.Ties.{OnlySettings, powered_only, discoverable_only, connectable_only, low_energy_only, bredr_only_lem, static_address_only}

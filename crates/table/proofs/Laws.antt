@@ -18,7 +18,7 @@ use lib.Count.{count_trailing_zeros, trailing_le, trailing_of_zero}
 use Rattle.model.specs.Octets.{Octets, le32, octet, u32}
 use Rattle.model.specs.Tables.{chop, entries, freed, loaded, free}
 use Rattle.model.specs.Layout.{region}
-use Rattle.model.specs.Proof.Region.{Sized}
+use Rattle.model.proofs.Model.Region.{Sized}
 use Rattle.octets.specs.Parts.{part, write_at}
 use Rattle.octets.proofs.Parts.{get_d_part, length_write_at}
 use Rattle.table.specs.Slots.{Canonical, InUse, NextUsed, first_at, joined_by_or, table_at}

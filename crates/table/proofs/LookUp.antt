@@ -18,7 +18,7 @@ use Rattle.model.specs.Octets.{Octets, same, u32}
 use Rattle.model.specs.State.{Table}
 use Rattle.model.specs.Tables.{begins, holds}
 use Rattle.model.specs.LookUp.{first_at, look_up, up_to_last, walked}
-use Rattle.model.specs.Proof.LookUp.{first_le, walked_found, walked_none}
+use Rattle.model.proofs.Model.LookUp.{first_le, walked_found, walked_none}
 use Rattle.model.specs.declared.LookUp.{LookUp}
 use Rattle.octets.specs.Parts.{part}
 use Rattle.table.specs.Slots.{InUse, NextUsed, table_at}

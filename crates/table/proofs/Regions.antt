@@ -17,14 +17,14 @@ use Rattle.model.specs.Octets.{Octets, le32, u16, u32}
 use Rattle.model.specs.State.{Table}
 use Rattle.model.specs.Tables.{entries, loaded, chop, free}
 use Rattle.model.specs.Layout.{occupancy, slot_octets, slots, region, slots_back, table_back}
-use Rattle.model.specs.Proof.Tests.{equal, either}
-use Rattle.model.specs.Proof.Region.{Sized, slot_write, occupancy_ones, occupancy_lt, occupancy_free}
-use Rattle.model.specs.Proof.Tables.{length_chop}
+use Rattle.model.proofs.Model.Tests.{equal, either}
+use Rattle.model.proofs.Model.Region.{Sized, slot_write, occupancy_ones, occupancy_lt, occupancy_free}
+use Rattle.model.proofs.Model.Tables.{length_chop}
 use Rattle.octets.specs.Parts.{part, write_at}
 use Rattle.octets.proofs.Parts.{length_part, length_write_at, write_split, write_left, write_right, write_whole}
 use Rattle.table.specs.Slots.{Canonical, table_at}
-use Rattle.model.specs.Proof.Decode.{slots_back_lem}
-use Rattle.model.specs.Proof.Room.{length_le32}
+use Rattle.model.proofs.Model.Decode.{slots_back_lem}
+use Rattle.model.proofs.Model.Room.{length_le32}
 
 -- 1. Octets written over octets -------------------------------------------------------------------------------------------------------------------
 

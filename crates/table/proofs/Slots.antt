@@ -16,9 +16,9 @@ use Rattle.model.specs.State.{Table}
 use Rattle.model.specs.WellFormed.{table_ok}
 use Rattle.model.specs.Tables.{entries, any, holds, full, freed, replaced, loaded, chop, TableRule, every, record_ok, free}
 use Rattle.model.specs.Layout.{slot_octets}
-use Rattle.model.specs.Proof.Tests.{and_true, either, equal}
-use Rattle.model.specs.Proof.Region.{Sized}
-use Rattle.model.specs.Proof.Tables.{table_fit}
+use Rattle.model.proofs.Model.Tests.{and_true, either, equal}
+use Rattle.model.proofs.Model.Region.{Sized}
+use Rattle.model.proofs.Model.Tables.{table_fit}
 use Rattle.table.specs.Slots.{first_at}
 
 -- 1. The first slot that matches, the lowest free slot ------------------------------------------------------------------------------------------

@@ -7,7 +7,7 @@ use lib.ListN.{length, get_or, replicate}
 use borrow.Author.Tests.{eq-eqb, ne_eqb, not-true, not-false}
 use Rattle.model.specs.declared.Schedule.{Schedule}
 use Rattle.model.specs.Advertising.{added_instance, lasting, no_schedule, passed_on, powered_off, removed_instance, repowered, whole_turn, with_instance, without}
-use Rattle.model.specs.Proof.Tests.{Five, five, five_of}
+use Rattle.model.proofs.Model.Tests.{Five, five, five_of}
 
 -- An instance added or changed: x is the schedule with it, y the one after its turn passed on
 module _ (powered : Bool) (k d t : ℕ) (s x y : Schedule) (changed : x ≡ with_instance k d t s) where

@@ -7,7 +7,7 @@ use mathlib.Core.List.{List, [], ◌∷◌}
 use lib.ListN.{length, take}
 use Rattle.model.specs.Advertising.{following, seconds, value_of, with_value}
 use Rattle.model.specs.Fairness.{sum_of}
-use Rattle.model.specs.Proof.Tests.{Five, five as fiveOf, five_of}
+use Rattle.model.proofs.Model.Tests.{Five, five as fiveOf, five_of}
 use Rattle.turns.specs.Ring.{next}
 use Rattle.turns.specs.Walk.{Stays, Rounds, whole, later, falls, count}
 use Rattle.turns.proofs.Values.{with_same, length_with}

@@ -11,7 +11,7 @@ use borrow.Author.Tests.{eq-eqb, ne_eqb}
 use Rattle.model.specs.declared.Schedule.{Schedule}
 use Rattle.model.specs.Advertising.{counted, duration_of, first_present, following, on_air_second, passed_on, present, second, seconds, timeout_of, turn_to, value_of}
 use Rattle.model.specs.Advertising.{with_instance, with_value, without}
-use Rattle.model.specs.Proof.Schedule.{second_rests}
+use Rattle.model.proofs.Model.Schedule.{second_rests}
 use Rattle.turns.specs.Ring.{next}
 use Rattle.turns.specs.Walk.{Stays}
 use Rattle.turns.proofs.Values.{value_with, with_same, with_twice, length_with}

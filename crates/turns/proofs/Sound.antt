@@ -9,8 +9,8 @@ use borrow.Author.Tests.{eqb-true, eq-eqb}
 use Rattle.model.specs.declared.Schedule.{Schedule}
 use Rattle.model.specs.Advertising.{duration_of, seconds, value_of}
 use Rattle.model.specs.WellFormed.{schedule_ok, times_fit}
-use Rattle.model.specs.Proof.Schedule.{ScheduleFit, Turn, on_air_five, rests, runs, schedule_fit, seconds_ok, times_at, times_many, turn_of}
-use Rattle.model.specs.Proof.Tests.{and_true}
+use Rattle.model.proofs.Model.Schedule.{ScheduleFit, Turn, on_air_five, rests, runs, schedule_fit, seconds_ok, times_at, times_many, turn_of}
+use Rattle.model.proofs.Model.Tests.{and_true}
 use Rattle.turns.specs.Walk.{Sound}
 
 -- A SCHEDULE THAT KEEPS THE MODEL'S RULES IS ONE THAT CAN ADVANCE

@@ -17,7 +17,7 @@ use Rattle.model.specs.Commands.{open_commands_lem}
 use Rattle.model.specs.Image.{open_image}
 use Rattle.model.specs.Hub.{open_hub, report}
 use Rattle.model.specs.Demand3.{open_demand3}
-use Rattle.model.specs.Examples.{dual_hardware, empty_image, hub_after, plug_dual, power_on, to}
+use Rattle.model.proofs.Examples.{dual_hardware, empty_image, hub_after, plug_dual, power_on, to}
 use Rattle.why.specs.Findings.{open_findings, why}
 use Rattle.why.specs.Spelling.{open_spelling, spelled}
 use Rattle.why.specs.Wording.{open_wording, text_of}

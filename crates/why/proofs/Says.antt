@@ -22,8 +22,8 @@ use Rattle.model.specs.Commands.{rule}
 use Rattle.model.specs.Hub.{Result, acted, answer_of, anyway, busy_or, by_rule, by_status, call, code_of, command, command_out, finished}
 use Rattle.model.specs.Hub.{general_out, immediate_at, immediate_done, index_of, keep, octets_of, packet_ok, params_of, radio_after_busy, radio_at, radio_before_busy}
 use Rattle.model.specs.Hub.{refusal_form, refusal_octets, refused, under_way, verdict}
-use Rattle.model.specs.Proof.Places.{first_moved}
-use Rattle.model.specs.Proof.Tests.{no_way}
+use Rattle.model.proofs.Model.Places.{first_moved}
+use Rattle.model.proofs.Model.Tests.{no_way}
 use Rattle.why.specs.declared.Finding.{Finding}
 use Rattle.why.specs.declared.Finding.TheVariants.{Busy, Taken, Wrong}
 use Rattle.why.specs.Findings.{and_then, busy_if, checked, first_wrong, in_packet, is_open, status_in, why, why_at, why_by, why_general, why_immediate}

@@ -24,7 +24,7 @@ use Rattle.model.specs.declared.Reason.TheVariants.{BredrOff, LowEnergyNeeded, P
 use Rattle.model.specs.declared.Reason.TheVariants.{LowEnergyOff, AdvertisingTimeoutUnpowered}
 use Rattle.model.specs.declared.Reason.TheVariants.{NoFreeSlot, UuidAbsent, NoKeyOfDevice, AlreadyBlocked, NotBlocked, DeviceAbsent}
 use Rattle.model.specs.declared.Reason.TheVariants.{InstanceAbsent}
-use Rattle.model.specs.Proof.Tests.{and_true, no_way, not-true}
+use Rattle.model.proofs.Model.Tests.{and_true, no_way, not-true}
 use Rattle.why.specs.declared.Finding.{Finding}
 use Rattle.why.specs.declared.Finding.TheVariants.{Busy, Taken, Wrong}
 use Rattle.why.specs.Findings.{status_in}

@@ -10,7 +10,7 @@ use borrow.Author.Tests.{le-ltb}
 use types.Run.{OneOf}
 use denote.Enum.Declared.{tag_of}
 use Rattle.model.specs.contracts.Reason.{the_type}
-use Rattle.model.specs.Proof.Tests.{and_true, no_way}
+use Rattle.model.proofs.Model.Tests.{and_true, no_way}
 use Rattle.model.specs.declared.Reason.{Reason}
 use Rattle.model.specs.declared.Reason.TheVariants.{CodeUnknown, IndexNotNone, ControllerAbsent, LengthWrong, CountAbove32, DebugFlagAbove1, KeyTypeAbove8}
 use Rattle.model.specs.declared.Reason.TheVariants.{KeyTypeAbove4, MasterAbove1, KeySizeNot7To16, RecordRepeated, AddressTypeNotBredr, AddressTypeNotLe}

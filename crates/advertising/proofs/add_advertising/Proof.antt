@@ -11,7 +11,7 @@ use Rattle.advertising.specs.Refusals.{status_if}
 use Rattle.model.specs.declared.RadioSettings.{RadioSettings}
 use Rattle.model.specs.Reasons.{first_of}
 use Rattle.model.specs.Immediate.{advertising_checks}
-use Rattle.model.specs.Proof.Tests.{not-false, not-true}
+use Rattle.model.proofs.Model.Tests.{not-false, not-true}
 use Rattle.advertising.proofs.Adding.{refusal_here}
 use borrow.Author.Rules.{rules}
 use Rattle.advertising.proofs.add_advertising.Statement.{statement}

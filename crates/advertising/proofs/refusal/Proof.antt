@@ -5,7 +5,7 @@ use mathlib.Core.Logic.{⊎_elim}
 use Prim.Native.Nat.{ℕ, zero, suc, ◌+◌, ◌-◌, ◌*◌, ◌≤◌, ◌<◌}
 use native.Mathlib.Omega.{arith}
 use lib.ListN.{length, take, drop, get_or, set, length-set}
-use Rattle.model.specs.Proof.Tests.{not-false, not-true}
+use Rattle.model.proofs.Model.Tests.{not-false, not-true}
 use Rattle.advertising.proofs.Refusals.{adv_long, all_on, flag_set, instance_above, instance_zero, le_off, no_timeout, scan_long, with_timeout}
 use borrow.Author.Rules.{rules}
 use Rattle.advertising.proofs.refusal.Statement.{statement}

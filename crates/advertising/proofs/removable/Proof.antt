@@ -6,7 +6,7 @@ use Prim.Native.Nat.{ℕ, zero, suc, ◌+◌, ◌-◌, ◌*◌, ◌≤◌, ◌<�
 use native.Mathlib.Omega.{arith}
 use lib.ListN.{length, take, drop, get_or, set, length-set}
 use Rattle.advertising.proofs.Removing.{all_named, none_above, one_named}
-use Rattle.model.specs.Proof.Tests.{no_way}
+use Rattle.model.proofs.Model.Tests.{no_way}
 use borrow.Author.Rules.{rules}
 use Rattle.advertising.proofs.removable.Statement.{statement}
 use Rattle.advertising.proofs.removable.Tie as tie

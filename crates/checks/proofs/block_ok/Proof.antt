@@ -6,7 +6,7 @@ use Rattle.checks.proofs.Present.{absent_block, present_block}
 use borrow.Author.Rules.{rules}
 use Rattle.checks.proofs.block_ok.Statement.{statement}
 use Rattle.checks.proofs.block_ok.Tie as tie
-use Rattle.model.specs.Proof.Tables.{slice_bytes}
+use Rattle.model.proofs.Model.Tables.{slice_bytes}
 
 present-requires : tie.Need-present-requires
 present-requires c κs = search rules

@@ -2,7 +2,7 @@
 use mathlib.Core.Path.{sym, ◌∙◌}
 use native.Mathlib.Omega.{arith}
 use borrow.Author.Rules.{rules}
-use Rattle.model.specs.Proof.Tables.{slice_bytes}
+use Rattle.model.proofs.Model.Tables.{slice_bytes}
 use Rattle.checks.proofs.Waiting.{kept_room, waiting_short, waiting_whole}
 use Rattle.checks.proofs.waiting_ok.Statement.{statement}
 use Rattle.checks.proofs.waiting_ok.Tie as tie

@@ -5,7 +5,7 @@ use Rattle.checks.proofs.Present.{state_is}
 use borrow.Author.Rules.{rules}
 use Rattle.checks.proofs.well_formed.Statement.{statement}
 use Rattle.checks.proofs.well_formed.Tie as tie
-use Rattle.model.specs.Proof.Tables.{slice_bytes}
+use Rattle.model.proofs.Model.Tables.{slice_bytes}
 
 block-ok-requires : tie.Need-block-ok-requires
 block-ok-requires c κs = search rules

@@ -2,7 +2,7 @@
 use mathlib.Core.Path.{sym, ◌∙◌}
 use Rattle.model.specs.Immediate.{identity_key_list}
 use Rattle.model.specs.Tables.{identity_key_rule}
-use Rattle.model.specs.Proof.Tests.{equal}
+use Rattle.model.proofs.Model.Tests.{equal}
 use Rattle.explain.proofs.Routes.{list_right, list_wrong}
 use borrow.Author.Rules.{rules}
 use Rattle.explain.proofs.load_identity_keys.Statement.{statement}

@@ -2,7 +2,7 @@
 use mathlib.Core.Path.{sym, ◌∙◌}
 use Rattle.model.specs.Immediate.{long_term_key_list}
 use Rattle.model.specs.Tables.{long_term_key_rule}
-use Rattle.model.specs.Proof.Tests.{equal}
+use Rattle.model.proofs.Model.Tests.{equal}
 use Rattle.explain.proofs.Routes.{list_right, list_wrong}
 use borrow.Author.Rules.{rules}
 use Rattle.explain.proofs.load_long_term_keys.Statement.{statement}

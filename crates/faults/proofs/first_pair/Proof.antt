@@ -1,7 +1,7 @@
 -- `faults::first_pair` meets its contract. The invariants `Outer` and `Inner`: what is left to compare tells what the whole list tells.
 use Prim.Native.Nat.{◌-◌}
 use native.Mathlib.Omega.{arith}
-use Rattle.model.specs.Proof.Tables.{slice_bytes}
+use Rattle.model.proofs.Model.Tables.{slice_bytes}
 use Rattle.faults.proofs.Pairs.{Inner, Outer, ends, few, first_turn, goes_in, goes_out, hits, inner_here, misses, outer_here}
 use borrow.Author.Rules.{rules}
 use Rattle.faults.proofs.first_pair.Statement.{statement}

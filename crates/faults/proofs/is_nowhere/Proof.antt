@@ -1,5 +1,5 @@
 -- `faults::is_nowhere` meets its contract: a case for each place.
-use Rattle.model.specs.Proof.Pairs.{nowhere}
+use Rattle.model.proofs.Model.Pairs.{nowhere}
 use borrow.Author.Rules.{rules}
 use Rattle.faults.proofs.is_nowhere.Statement.{statement}
 use Rattle.faults.proofs.is_nowhere.Tie as tie

@@ -2,7 +2,7 @@
 use mathlib.Core.Path.{◌∙◌}
 use Rattle.model.specs.Immediate.{add_advertising}
 use Rattle.why.proofs.Orders.{immediate_right}
-use Rattle.model.specs.Proof.Tests.{not-false, not-true}
+use Rattle.model.proofs.Model.Tests.{not-false, not-true}
 use mathlib.Core.Path.{sym}
 use Rattle.findings.proofs.Laws.{short_length, wrong_data}
 use Rattle.model.specs.Immediate.{advertising_checks}

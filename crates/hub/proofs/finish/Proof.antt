@@ -4,7 +4,7 @@ use Prim.Native.Nat.{◌-◌}
 use native.Mathlib.Omega.{arith}
 use lib.Seq.{length-take-le}
 use borrow.Author.Rules.{rules}
-use Rattle.model.specs.Proof.Demand3.{state_long}
+use Rattle.model.proofs.Model.Demand3.{state_long}
 use Rattle.hub.proofs.Lumps.{cleared_is_ok, front_fine, head_four, kept_served, long_served}
 use Rattle.hub.proofs.finish.Statement.{statement}
 use Rattle.hub.proofs.finish.Tie as tie

@@ -2,7 +2,7 @@
 use Prim.Native.Nat.{◌-◌}
 use native.Mathlib.Omega.{arith}
 use Rattle.model.specs.Hub.{code_of, index_of}
-use Rattle.model.specs.Proof.Demand3.{state_long}
+use Rattle.model.proofs.Model.Demand3.{state_long}
 use Rattle.hub.proofs.Laws.{packet_long, params_all}
 use Rattle.hub.proofs.Why.{found_is}
 use borrow.Author.Rules.{rules}

@@ -1,6 +1,6 @@
 -- `hub::hub_load` meets its contract: the answer, and the offset of a fault, in one number.
 use native.Mathlib.Omega.{arith}
-use Rattle.model.specs.Proof.Tables.{slice_bytes}
+use Rattle.model.proofs.Model.Tables.{slice_bytes}
 use borrow.Author.Rules.{rules}
 use Rattle.hub.proofs.Entries.{count_loaded, returns_loaded}
 use Rattle.hub.proofs.hub_load.Statement.{statement}

@@ -2,7 +2,7 @@
 use mathlib.Core.Path.{refl}
 use native.Mathlib.Omega.{arith}
 use borrow.Author.Rules.{rules}
-use Rattle.model.specs.Proof.Tables.{slice_bytes}
+use Rattle.model.proofs.Model.Tables.{slice_bytes}
 use Rattle.hub.proofs.Entries.{count_lump, packed_most, returns_taken}
 use Rattle.hub.proofs.hub_stream.Statement.{statement}
 use Rattle.hub.proofs.hub_stream.Tie as tie

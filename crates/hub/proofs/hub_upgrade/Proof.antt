@@ -1,9 +1,9 @@
 -- `hub::hub_upgrade` meets its contract.
 use native.Mathlib.Omega.{arith}
 use lib.ListN.{length}
-use Rattle.model.specs.Proof.Tables.{slice_bytes}
-use Rattle.model.specs.FaultTheorems.{move_offsets_fit}
-use Rattle.model.specs.Theorems.{no_move_longer}
+use Rattle.model.proofs.Model.Tables.{slice_bytes}
+use Rattle.model.proofs.FaultTheorems.{move_offsets_fit}
+use Rattle.model.proofs.Theorems.{no_move_longer}
 use borrow.Author.Rules.{rules}
 use Rattle.hub.proofs.Entries.{count_moved, returns_moved}
 use Rattle.hub.proofs.hub_upgrade.Statement.{statement}

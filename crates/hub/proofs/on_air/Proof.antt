@@ -1,7 +1,7 @@
 -- `hub::on_air` meets its contract.
 use mathlib.Core.Path.{sym, ◌∙◌}
 use borrow.Author.Rules.{rules}
-use Rattle.model.specs.Proof.Demand3.{state_long}
+use Rattle.model.proofs.Model.Demand3.{state_long}
 use Rattle.hub.proofs.Bridge.{on_air_bad, on_air_done, on_air_no_room}
 use Rattle.hub.proofs.on_air.Statement.{statement}
 use Rattle.hub.proofs.on_air.Tie as tie

@@ -2,7 +2,7 @@
 use mathlib.Core.Path.{sym, ◌∙◌}
 use Prim.Native.Nat.{◌-◌}
 use borrow.Author.Rules.{rules}
-use Rattle.model.specs.Proof.Demand3.{state_long}
+use Rattle.model.proofs.Model.Demand3.{state_long}
 use Rattle.hub.proofs.Lumps.{takes_bad, takes_small}
 use Rattle.hub.proofs.stream.Statement.{statement}
 use Rattle.hub.proofs.stream.Tie as tie

@@ -3,7 +3,7 @@ use mathlib.Core.Path.{refl, sym, ◌∙◌}
 use native.Mathlib.Omega.{arith}
 use lib.Seq.{length-take-le}
 use borrow.Author.Rules.{rules}
-use Rattle.model.specs.Proof.Tables.{slice_bytes}
+use Rattle.model.proofs.Model.Tables.{slice_bytes}
 use Rattle.hub.proofs.Lumps.{last_said, still_short, takes_all_lem, takes_last, takes_whole, whole_fine}
 use Rattle.hub.proofs.take_in.Statement.{statement}
 use Rattle.hub.proofs.take_in.Tie as tie

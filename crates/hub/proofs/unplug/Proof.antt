@@ -2,7 +2,7 @@
 use mathlib.Core.Path.{refl, sym, ◌∙◌}
 use Prim.Native.Nat.{◌-◌}
 use borrow.Author.Rules.{rules}
-use Rattle.model.specs.Proof.Demand3.{state_long}
+use Rattle.model.proofs.Model.Demand3.{state_long}
 use Rattle.hub.proofs.Entries.{gives_bad}
 use Rattle.hub.proofs.Bridge.{unplug_done, unplug_no_room}
 use Rattle.hub.proofs.unplug.Statement.{statement}

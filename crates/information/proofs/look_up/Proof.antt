@@ -1,7 +1,7 @@
 -- `information::look_up` meets its contract: what stands at the index, the question, then the look-up.
 use mathlib.Core.Path.{sym, ◌∙◌}
 use native.Mathlib.Omega.{arith}
-use Rattle.model.specs.Proof.Demand3.{state_long}
+use Rattle.model.proofs.Model.Demand3.{state_long}
 use Rattle.information.proofs.LookUp.{asked_right, asked_wrong, look_up_told, no_controller_lem}
 use borrow.Author.Rules.{rules}
 use Rattle.information.proofs.look_up.Statement.{statement}

@@ -4,7 +4,7 @@ use Prim.Native.Nat.{◌-◌}
 use native.Mathlib.Omega.{arith}
 use Rattle.information.proofs.General.{front_is, front_long}
 use Rattle.model.specs.Commands.{read_indexes}
-use Rattle.model.specs.Proof.Demand3.{state_long}
+use Rattle.model.proofs.Model.Demand3.{state_long}
 use borrow.Author.Rules.{rules}
 use Rattle.information.proofs.read_indexes.Statement.{statement}
 use Rattle.information.proofs.read_indexes.Tie as tie

@@ -1,7 +1,7 @@
 -- `information::tell_name` meets its contract: a copy of the part that `used_name` hands out.
 use mathlib.Core.Path.{sym, ◌∙◌}
 use borrow.Author.Rules.{rules}
-use Rattle.model.specs.Proof.Demand3.{state_long}
+use Rattle.model.proofs.Model.Demand3.{state_long}
 use Rattle.layout.proofs.Reading.{present_below}
 use Rattle.information.proofs.Name.{told_absent, told_neither, told_used}
 use Rattle.information.proofs.tell_name.Statement.{statement}

@@ -1,7 +1,7 @@
 -- `layout::fill_block` meets its contract. Four writes into a block that is zero; the state is as long as a well-formed one.
 use mathlib.Core.Path.{◌∙◌}
 use native.Mathlib.Omega.{arith}
-use Rattle.model.specs.Proof.Demand3.{state_long}
+use Rattle.model.proofs.Model.Demand3.{state_long}
 use Rattle.layout.proofs.Filled.{block_filled}
 use borrow.Author.Rules.{rules}
 use Rattle.layout.proofs.fill_block.Statement.{statement}

@@ -2,7 +2,7 @@
 use mathlib.Core.Path.{◌∙◌}
 use native.Mathlib.Omega.{arith}
 use Rattle.layout.proofs.Filled.{clock_changed}
-use Rattle.model.specs.Proof.Demand3.{state_long}
+use Rattle.model.proofs.Model.Demand3.{state_long}
 use borrow.Author.Rules.{rules}
 use Rattle.layout.proofs.put_clock.Statement.{statement}
 use Rattle.layout.proofs.put_clock.Tie as tie

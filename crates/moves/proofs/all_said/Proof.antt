@@ -1,7 +1,7 @@
 -- `moves::all_said` meets its contract: what is left of the controllers says what all of them say.
 use native.Mathlib.Omega.{arith}
 use borrow.Author.Tests.{not-false, not-true}
-use Rattle.model.specs.Proof.Tables.{slice_bytes}
+use Rattle.model.proofs.Model.Tables.{slice_bytes}
 use Rattle.moves.specs.Moving.{other}
 use Rattle.moves.proofs.Controllers.{Here, SaidLeft, here, said_first, said_next, said_none, said_stop}
 use borrow.Author.Rules.{rules}

@@ -6,7 +6,7 @@ use mathlib.Core.Option.{some}
 use lib.ListN.{length, drop}
 use Rattle.model.specs.declared.Version.{Version}
 use Rattle.model.specs.Image.{name_size}
-use Rattle.model.specs.Proof.Tables.{slice_bytes}
+use Rattle.model.proofs.Model.Tables.{slice_bytes}
 use Rattle.reading.specs.Contents.{Parsed, Placed, controller_in}
 use Rattle.moves.specs.Moving.{other}
 use Rattle.moves.proofs.Pieces.{Laid, Room, controller_written, finds_room, laid}

@@ -3,7 +3,7 @@ use Prim.Native.Nat.{◌+◌, ◌≤◌}
 use native.Mathlib.Omega.{arith}
 use mathlib.Core.Path.{◌≡◌}
 use lib.ListN.{length, drop}
-use Rattle.model.specs.Proof.Tables.{slice_bytes}
+use Rattle.model.proofs.Model.Tables.{slice_bytes}
 use Rattle.reading.specs.Contents.{Parsed, Placed}
 use Rattle.moves.specs.Moving.{other, written}
 use Rattle.moves.proofs.Controllers.{Here, WriteLeft, here, of_any, room_for, write_first, write_next, write_none}

@@ -1,7 +1,7 @@
 -- `moves::write` meets its contract: the controllers, then the head before them.
 use native.Mathlib.Omega.{arith}
 use mathlib.Core.Path.{◌∙◌}
-use Rattle.model.specs.Proof.Tables.{slice_bytes}
+use Rattle.model.proofs.Model.Tables.{slice_bytes}
 use Rattle.moves.specs.Moving.{other}
 use Rattle.moves.proofs.Controllers.{whole}
 use Rattle.moves.proofs.Writing.{all_written, image_room}

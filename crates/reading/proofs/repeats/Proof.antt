@@ -1,7 +1,7 @@
 -- `reading::repeats` meets its contract. The invariant `Seek`: the records that are left tell what all tell.
 use mathlib.Core.Path.{sym, ◌∙◌}
 use native.Mathlib.Omega.{arith}
-use Rattle.model.specs.Proof.Tables.{slice_bytes}
+use Rattle.model.proofs.Model.Tables.{slice_bytes}
 use Rattle.reading.proofs.OneTable.{Seek, seek_end, seek_first, seek_here, seek_hit, seek_miss}
 use borrow.Author.Rules.{rules}
 use Rattle.reading.proofs.repeats.Statement.{statement}

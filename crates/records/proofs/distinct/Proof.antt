@@ -1,7 +1,7 @@
 -- `records::distinct` meets its contract. The words of the records' identities tell what their keys tell.
 use mathlib.Core.Path.{◌∙◌}
 use native.Mathlib.Omega.{arith}
-use Rattle.model.specs.Proof.Tables.{slice_bytes}
+use Rattle.model.proofs.Model.Tables.{slice_bytes}
 use Rattle.records.proofs.Identities.{slots_told}
 use borrow.Author.Rules.{rules}
 use Rattle.records.proofs.distinct.Statement.{statement}

@@ -2,7 +2,7 @@
 use mathlib.Core.Path.{sym, ◌∙◌}
 use mathlib.Core.List.{map}
 use native.Mathlib.Omega.{arith}
-use Rattle.model.specs.Proof.Tables.{slice_bytes}
+use Rattle.model.proofs.Model.Tables.{slice_bytes}
 use Rattle.model.specs.Tables.{distinct, every, record_ok, records_ok, rule_at}
 use Rattle.records.specs.Slots.{free_zero, records_at}
 use Rattle.records.proofs.Identities.{slots_told}

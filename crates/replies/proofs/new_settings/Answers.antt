@@ -2,7 +2,7 @@
 use mathlib.Core.Path.{◌∙◌}
 use Rattle.replies.proofs.Laws.{event_write}
 use borrow.Author.Rules.{rules}
-use Rattle.model.specs.Proof.Room.{length_le32}
+use Rattle.model.proofs.Model.Room.{length_le32}
 use Rattle.replies.proofs.new_settings.Goals as goal
 
 pub returns : goal.returns

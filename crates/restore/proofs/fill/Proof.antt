@@ -5,7 +5,7 @@ use mathlib.Core.Bool.{true}
 use lib.ListN.{length}
 use Rattle.model.specs.Lengths as Lengths
 use Rattle.model.specs.Octets.{bytes}
-use Rattle.model.specs.Proof.Tables.{slice_bytes}
+use Rattle.model.proofs.Model.Tables.{slice_bytes}
 use Rattle.layout.proofs.Filled.{state_cleared}
 use Rattle.restore.proofs.Loading.{Loading, loading_first, loading_last, loading_ready, loading_turn}
 use borrow.Author.Rules.{rules}

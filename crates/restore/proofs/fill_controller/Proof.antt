@@ -1,6 +1,6 @@
 -- `restore::fill_controller` meets its contract: hardware, settings, names and tables, each written into a well-formed state.
 use native.Mathlib.Omega.{arith}
-use Rattle.model.specs.Proof.Tables.{slice_bytes}
+use Rattle.model.proofs.Model.Tables.{slice_bytes}
 use Rattle.restore.proofs.Controllers.{Awaited, address_long, controller_filled, fixed_room, hardware_ready, names_ready, names_room, settings_ready}
 use borrow.Author.Rules.{rules}
 use Rattle.restore.proofs.fill_controller.Statement.{statement}

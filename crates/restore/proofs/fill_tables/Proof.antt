@@ -11,7 +11,7 @@ use Rattle.layout.proofs.Tables.{table_fits}
 use borrow.Author.Rules.{rules}
 use Rattle.restore.proofs.fill_tables.Statement.{statement}
 use Rattle.restore.proofs.fill_tables.Tie as tie
-use Rattle.model.specs.Proof.Tables.{slice_bytes}
+use Rattle.model.proofs.Model.Tables.{slice_bytes}
 
 abbrev invariant-loop : tie.invariant-loop
 invariant-loop state₀ index image at p₀ k₀ state p k = (k ≤ 6) × (length state ≡ Lengths.state) × TablesLeft state₀ index image at state k p

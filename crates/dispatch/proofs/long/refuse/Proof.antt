@@ -2,7 +2,7 @@
 use mathlib.Core.Path.{sym, ◌∙◌}
 use native.Mathlib.Omega.{arith}
 use borrow.Author.Rules.{rules}
-use Rattle.model.specs.Proof.Tables.{slice_bytes}
+use Rattle.model.proofs.Model.Tables.{slice_bytes}
 use Rattle.dispatch.proofs.LongPackets.{refuse_long}
 use Rattle.dispatch.proofs.long.refuse.Statement.{statement}
 use Rattle.dispatch.proofs.long.refuse.Tie as tie

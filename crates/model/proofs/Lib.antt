@@ -1,0 +1,13 @@
+pub mod Model
+pub mod Theorems
+pub mod FaultTheorems
+pub mod Examples
+pub mod FaultExamples
+pub mod ImageExamples
+pub mod Rotation
+pub mod StaticAddresses
+pub mod WalkedSlots
+pub mod LowEnergyAlone
+pub mod SerialLine
+pub mod EasyErrors
+pub mod LazyPrograms
