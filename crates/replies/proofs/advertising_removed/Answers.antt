@@ -7,16 +7,16 @@ pub returns : goal.returns
 returns c =
     let fourth = c in
     let third = fourth in
-    let second = third.before.before.before.before in
-    let first = second.before.before.before.before in
+    let second = third in
+    let first = second in
     removed_row
     _ _ _ _ _ _ _ _ _ _ _ _ _ _ _
-    first.instance-removed.ensures.1
-    first.instance-removed.ensures.2
-    second.instance-removed2.ensures.1
-    second.instance-removed2.ensures.2
-    third.instance-removed3.ensures.1
-    third.instance-removed3.ensures.2
+    first.instance_removed-second.ensures.1
+    first.instance_removed-second.ensures.2
+    second.instance_removed-third.ensures.1
+    second.instance_removed-third.ensures.2
+    third.instance_removed-fourth.ensures.1
+    third.instance_removed-fourth.ensures.2
     fourth.instance_removed-fifth.ensures.1
     fourth.instance_removed-fifth.ensures.2
     c.instance_removed.ensures.1

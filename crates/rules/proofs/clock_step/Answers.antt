@@ -4,4 +4,4 @@ use Rattle.std.proofs.Common.{rules}
 use Rattle.rules.proofs.clock_step.Goals as goal
 
 pub returns : goal.returns
-returns c = step_is _ _ _ (search rules) (search rules) c.wrapping_sub_u32.ensures
+returns c = step_is _ _ _ (search rules) (search rules) c.wrapping_sub_u32.ensures.value

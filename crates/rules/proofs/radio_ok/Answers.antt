@@ -5,7 +5,7 @@ use Rattle.rules.proofs.radio_ok.Goals as goal
 
 pub static_fits-requires : goal.static_fits-requires
 static_fits-requires c =
-    let o : 6 ≡ length c.args.r.static_address = slice-aggregate-static-fits c in omega arith
+    let o : 6 ≡ length c.args.r.static_address = (search rules) in omega arith
 
 pub returns-then-switches_ok : goal.returns-then-switches_ok
 unfolding radio_ok

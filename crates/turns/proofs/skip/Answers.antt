@@ -16,14 +16,7 @@ pub falls-fallen-requires : goal.falls-fallen-requires
 falls-fallen-requires c = c.rounds-r.ensures.stays
 
 -- the skipped rounds fit into the seconds
-fit : (c : goal.After-falls-fallen (
-  whole-reads.Asked,
-  whole-reads.Learnt,
-  rounds-reads.Asked,
-  rounds-reads.Learnt,
-  falls-reads.Asked,
-  falls-reads.Learnt,
-) reads.Pre reads.Post)
+fit : (c : goal.After-falls-fallen)
     → c.rounds-r.result * c.whole-whole.result ≤ c.args.w.seconds
 fit c =
     let a = c in

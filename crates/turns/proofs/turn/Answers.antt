@@ -19,7 +19,7 @@ overflow_sub-result c = goes_within _ _ _ _ c.if-goes.true c.goes.ensures
 pub returns-then-goes : goal.returns-then-goes
 returns-then-goes c =
     turn_going _ _ _ _ _ _ c.requires.0
-    c.requires.1 c.value_of_lem.ensures
+    c.requires.1 c.value_of-t.ensures
     c.goes.ensures c.if-goes.true c.with_instance.ensures c.pass_on-schedule.ensures
 
 pub air-schedule-requires : goal.air-schedule-requires
@@ -30,7 +30,7 @@ pub returns-then-n-left : goal.returns-then-n-left
 returns-then-n-left c =
     turn_running _ _ c.args.w.schedule _ _ _
     c.requires.0 c.requires.1
-    c.value_of_lem.ensures c.goes.ensures c.if-goes.false c.if-n-left.true
+    c.value_of-t.ensures c.goes.ensures c.if-goes.false c.if-n-left.true
     c.air-schedule.ensures
 
 pub air-requires : goal.air-requires
@@ -43,6 +43,6 @@ pass_on-schedule-requires-2 c = (facts _ c.requires.0).one
 pub returns : goal.returns
 returns c =
     turn_passing _ _ _ _ _ _ c.requires.0
-    c.requires.1 c.value_of_lem.ensures
+    c.requires.1 c.value_of-t.ensures
     c.goes.ensures c.if-goes.false c.if-n-left.false c.air.ensures
     c.pass_on-schedule-2.ensures

@@ -5,7 +5,7 @@ use Rattle.rules.proofs.Laws.{bredr_on, bredr_off}
 use Rattle.rules.proofs.effects.effect_bredr.Goals as goal
 
 pub returns-then-not-on : goal.returns-then-not-on
-returns-then-not-on c = c.with_timer.ensures ∙ bredr_off _ _ _ c.no_timer.ensures (not-true _ c.if-not-on.true)
+returns-then-not-on c = c.with_timer.ensures ∙ bredr_off _ _ _ c.no_timer.ensures (search rules)
 
 pub returns : goal.returns
-returns c = bredr_on _ _ (not-false _ c.if-not-on.false)
+returns c = bredr_on _ _ (search rules)

@@ -4,7 +4,7 @@ use Rattle.rules.proofs.Laws.{connectable_on, connectable_off}
 use Rattle.rules.proofs.effects.effect_connectable.Goals as goal
 
 pub returns-then-on : goal.returns-then-on
-returns-then-on c = connectable_on _ _ c.if-on.true
+returns-then-on c = connectable_on _ _ (search rules)
 
 pub returns : goal.returns
-returns c = c.with_timer.ensures ∙ connectable_off _ _ _ c.no_timer.ensures c.if-on.false
+returns c = c.with_timer.ensures ∙ connectable_off _ _ _ c.no_timer.ensures (search rules)

@@ -11,7 +11,7 @@ use borrow.Author.Rules.{rules}
 use Rattle.turns.proofs.skips.whole.Goals as goal
 
 -- each duration is below 2 ^ 16
-below : (c : goal.Start) (i : ℕ) → Fits w16 (get_or c.args.t1 i 0)
+below : (c : goal.Start) (i : ℕ) → Fits w16 (get_or c.args.d i 0)
 below c i = search rules
 
 pub overflow_add-result : goal.overflow_add-result
