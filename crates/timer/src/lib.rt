@@ -1,4 +1,5 @@
 // The discoverable timer of a controller, counted down in place.
+#![tactic(auto)]
 ghost use Rattle.std.specs.Prelude.{◌≡◌};
 ghost use Rattle.model.specs.Hub as Hub;
 

@@ -25,3 +25,7 @@ overflow_add-result-3 c = omega (arith, below c 1, below c 2, below c 3, below c
 
 pub overflow_add-result-4 : goal.overflow_add-result-4
 overflow_add-result-4 c = omega (arith, below c 0, below c 1, below c 2, below c 3, below c 4)
+
+pub returns : goal.returns
+unfolding whole sum_of value_of
+returns c = search rules
