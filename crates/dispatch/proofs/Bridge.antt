@@ -17,7 +17,7 @@ use Rattle.model.specs.Reasons.{status_of}
 use Rattle.model.specs.declared.Reason.TheVariants.{CodeUnknown, ControllerAbsent}
 use Rattle.model.specs.Rules.{Rule, immediate, radio, ImmediateRule, RadioRule, set_powered, set_discoverable, set_connectable, set_low_energy, set_bredr}
 use Rattle.model.specs.Rules.{set_static_address}
-use Rattle.model.specs.Rules.{general as generalRule}
+use Rattle.model.specs.Rules.{general as general_rule}
 use Rattle.model.specs.Immediate.{set_bondable, set_local_name, add_uuid, remove_uuid, load_keys, link_key_list, long_term_key_list, identity_key_list}
 use Rattle.model.specs.Immediate.{add_advertising, remove_advertising}
 use Rattle.model.specs.Immediate.{unpair_device, block_device, unblock_device, add_device, remove_device, read_information}
@@ -50,7 +50,7 @@ module _ (s : Octets) (i code known : ℕ) (ps d d' s' : Octets) (r : Answer) (e
   arm_radio q e g k = rw (ec, route_radio s i known ps q e g) k
 
   -- a general command
-  pub arm_general : (f : PlainHub → Octets) → rule known ≡ some (generalRule f) → Gives (general_command s i known ps f) r d d' s'
+  pub arm_general : (f : PlainHub → Octets) → rule known ≡ some (general_rule f) → Gives (general_command s i known ps f) r d d' s'
       → Gives (any_command s i code ps) r d d' s'
   arm_general f e k = rw (ec, route_general s i known ps f e) k
 
@@ -59,7 +59,7 @@ module _ (s : Octets) (i code known : ℕ) (ps d d' s' : Octets) (r : Answer) (e
 -- the rule of a command to a controller
 unfoldable pub to_controller : Option Rule → Bool
 to_controller none = false
-to_controller (some (generalRule f)) = false
+to_controller (some (general_rule f)) = false
 to_controller (some (immediate q)) = true
 to_controller (some (radio q)) = true
 
@@ -96,7 +96,7 @@ module _ (s : Octets) (i code : ℕ) (ps d d' : Octets) (r : Answer) (ok : state
       → any_command s i code ps ≡ ended s (refused (by_status i code) ControllerAbsent)
   unfolding to_controller
   absent_by e none eu t = no_way (sym t)
-  absent_by e (some (generalRule f)) eu t = no_way (sym t)
+  absent_by e (some (general_rule f)) eu t = no_way (sym t)
   absent_by e (some (immediate q)) eu t = route_immediate_absent s i code ps q eu e
   absent_by e (some (radio q)) eu t = route_radio_absent s i code ps q eu e
 
@@ -161,17 +161,17 @@ information_left code m a b c d =
 -- 4. The rules by code --------------------------------------------------------------------------------------------------------------------------
 
 -- Read Version is a general command
-pub rule_01 : rule Codes.read_version ≡ some (generalRule read_version)
+pub rule_01 : rule Codes.read_version ≡ some (general_rule read_version)
 unfolding rule find rows
 rule_01 = refl
 
 -- the same, of Read Commands
-pub rule_02 : rule Codes.read_commands ≡ some (generalRule read_commands)
+pub rule_02 : rule Codes.read_commands ≡ some (general_rule read_commands)
 unfolding rule find rows
 rule_02 = refl
 
 -- the same, of Read Indexes
-pub rule_03 : rule Codes.read_indexes ≡ some (generalRule read_indexes)
+pub rule_03 : rule Codes.read_indexes ≡ some (general_rule read_indexes)
 unfolding rule find rows
 rule_03 = refl
 

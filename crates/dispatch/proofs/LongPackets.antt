@@ -18,7 +18,7 @@ use Rattle.model.specs.State.{Controller, PlainHub, controller_at}
 use Rattle.model.specs.Reasons.{status_of}
 use Rattle.model.specs.declared.Reason.TheVariants.{IndexNotNone}
 use Rattle.model.specs.Rules.{Rule, immediate, radio}
-use Rattle.model.specs.Rules.{general as generalRule}
+use Rattle.model.specs.Rules.{general as is_general}
 use Rattle.model.specs.Tables.{identity_key_rule, link_key_rule, long_term_key_rule}
 use Rattle.model.specs.Immediate.{identity_key_list, link_key_list, long_term_key_list}
 use Rattle.model.specs.Commands.{read_commands, read_indexes, read_version, rule}
@@ -66,12 +66,12 @@ fits_none code n o a b c = rw (ne_eqb code Codes.load_link_keys a, by_list, ne_e
 -- 2. The status -------------------------------------------------------------------------------------------------------------------------------------
 
 -- a code of the first three is that of a command to no controller
-general_rule : (code : ℕ) → member code general_codes ≡ true → (f : PlainHub → Octets) × (rule code ≡ some (generalRule f))
+general_rule : (code : ℕ) → member code general_codes ≡ true → (f : PlainHub → Octets) × (rule code ≡ some (is_general f))
 unfolding member general_codes
 general_rule code m = go (eqb code Codes.read_version) (eqb code Codes.read_commands) (eqb code Codes.read_indexes) refl refl refl m
   where
     go : (a b c : Bool) → eqb code Codes.read_version ≡ a → eqb code Codes.read_commands ≡ b → eqb code Codes.read_indexes ≡ c → a || (b || (c || false)) ≡ true
-        → (f : PlainHub → Octets) × (rule code ≡ some (generalRule f))
+        → (f : PlainHub → Octets) × (rule code ≡ some (is_general f))
     go true b c ea eb ec m = (read_version, rw (equal code Codes.read_version ea) rule_01)
     go false true c ea eb ec m = (read_commands, rw (equal code Codes.read_commands eb) rule_02)
     go false false true ea eb ec m = (read_indexes, rw (equal code Codes.read_indexes ec) rule_03)
@@ -81,7 +81,7 @@ general_rule code m = go (eqb code Codes.read_version) (eqb code Codes.read_comm
 to_controller_reason : (i : ℕ) (fits : Bool) (x : Option Controller) (u : Option Rule) → to_controller u ≡ true → long_reason i fits x u ≡ controller_reason fits x
 unfolding to_controller long_reason
 to_controller_reason i fits x none t = no_way (sym t)
-to_controller_reason i fits x (some (generalRule f)) t = no_way (sym t)
+to_controller_reason i fits x (some (is_general f)) t = no_way (sym t)
 to_controller_reason i fits x (some (immediate q)) t = refl
 to_controller_reason i fits x (some (radio r)) t = refl
 
@@ -92,7 +92,7 @@ module _ (i code : ℕ) (fits : Bool) (x : Option Controller) where
   status_length m e = let g = general_rule code m in rw (g.1, e) refl
 
   -- with another index that is the reason
-  other_index : (f : PlainHub → Octets) → (i ≡ 0xFFFF → ⊥) → long_reason i fits x (some (generalRule f)) ≡ IndexNotNone
+  other_index : (f : PlainHub → Octets) → (i ≡ 0xFFFF → ⊥) → long_reason i fits x (some (is_general f)) ≡ IndexNotNone
   unfolding long_reason
   other_index f n = rw (ne_eqb i 0xFFFF n, long_reason)
 

@@ -14,7 +14,7 @@ use Rattle.model.specs.Octets.{Octets, u16}
 use Rattle.model.specs.declared.Settings.{Settings}
 use Rattle.model.specs.State.{Controller, PlainHub, controller_at, settings_of}
 use Rattle.model.specs.Rules.{ImmediateRule, RadioRule, Rule, immediate, radio}
-use Rattle.model.specs.Rules.{general as generalRule}
+use Rattle.model.specs.Rules.{general as general_rule}
 use Rattle.model.specs.Immediate.{KeyList, length_field, list_checks, load_keys, records_of}
 use Rattle.model.specs.Commands.{rule}
 use Rattle.model.specs.Hub.{under_way}
@@ -54,7 +54,7 @@ module _ (s : Octets) (i code known : ℕ) (ps : Octets) (f : Finding) (ec : cod
   arm_settings q e g m b em eb k = arm_radio q e g (k ∙ rw (em, eb))
 
   -- a command to no controller
-  pub arm_general : (t : PlainHub → Octets) → rule known ≡ some (generalRule t) → f ≡ why_general i ps → f ≡ why_by (decode s) i ps (rule code)
+  pub arm_general : (t : PlainHub → Octets) → rule known ≡ some (general_rule t) → f ≡ why_general i ps → f ≡ why_by (decode s) i ps (rule code)
   unfolding why_by
   arm_general t e k = rw (ec, e) k
 
@@ -64,7 +64,7 @@ module _ (s : Octets) (i code : ℕ) (ps : Octets) where
       → Wrong ControllerAbsent (AtOctet 2) ≡ why_by (decode s) i ps u
   unfolding to_controller why_by why_at
   absent_by e none t = no_way (sym t)
-  absent_by e (some (generalRule f)) t = no_way (sym t)
+  absent_by e (some (general_rule f)) t = no_way (sym t)
   absent_by e (some (immediate q)) t = rw e
   absent_by e (some (radio q)) t = rw e
 

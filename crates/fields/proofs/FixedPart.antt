@@ -33,8 +33,8 @@ use Rattle.fields.proofs.Says.{field_past}
 unfoldable from_names : Version → (index : Octets) → Hardware → (flags static : Octets) → Reader Fixed
 from_names v i f flags static = do
   name ← name_field v 249
-  shortName ← name_field v 11
-  give (fixed_by v (octet i 0) f (number 0 flags) static (name ++ shortName))
+  short_name ← name_field v 11
+  give (fixed_by v (octet i 0) f (number 0 flags) static (name ++ short_name))
 
 -- from the static address on
 unfoldable from_static : Version → (index : Octets) → Hardware → (flags : Octets) → Reader Fixed

@@ -19,7 +19,7 @@ use Rattle.model.specs.Stream.{HostCall, Streamed, direct, stream}
 use Rattle.model.specs.WellFormed.{call_wide, host_call_wide, host_calls_wide}
 use Rattle.model.specs.Meanings.{hub_clock, hub_command, hub_load, hub_plug, hub_report, hub_save, hub_stream, hub_unplug, bad_state, laid_out, meaning}
 use Rattle.model.specs.Meanings.{state_ok, stream_meaning}
-use Rattle.model.specs.Demand3.{HostEntry, entry, hostAfter, hostNext, hostTrace, lump, made}
+use Rattle.model.specs.Demand3.{HostEntry, entry, host_after, host_next, host_trace, lump, made}
 use Rattle.model.specs.Cutting.{LumpTold, coming_in, finishes_packet, not_well, takes_all, too_small}
 use Rattle.model.proofs.Theorems.{answers_are_seven, count_fits, demand_3, lump_is_told, no_lump_reply_longer}
 use Rattle.model.proofs.Model.Tests.{and_true, both, either}
@@ -80,12 +80,12 @@ record StepOf (s : Octets) (c : HostCall) (r : ℕ) (reply left : Octets) : Type
   wide : host_call_wide c ≡ true
   seen : entry_by c r reply ≡ told s c
   count : count_in r ≡ length (octets_in r reply)
-  state : left ≡ hostNext meaning stream_meaning s c
+  state : left ≡ host_next meaning stream_meaning s c
 
 -- a contract is such a step
 step_by : (s : Octets) (c : Call) (r : ℕ) (before reply left : Octets) → call_wide c ≡ true → Returns (meaning s c) r before reply left
     → StepOf s (direct c) r reply left
-unfolding host_call_wide entry_by told hostNext
+unfolding host_call_wide entry_by told host_next
 step_by s c r before reply left w k =
     let b = seen_is s c r before reply left k in
     record { wide = w; seen = rw (b.0, b.2); count = b.1 ∙ sym (ap (λ (o : Octets). length o) b.2); state = k.state }
@@ -93,7 +93,7 @@ step_by s c r before reply left w k =
 -- so is that of a lump
 step_by_lump : (s o : Octets) (r : ℕ) (before reply left : Octets) → bytes o ≡ true → ReturnsTaken (hub_stream s o (length before)) r before reply left
     → StepOf s (stream (length before) o) r reply left
-unfolding host_call_wide entry_by told hostNext hub_stream
+unfolding host_call_wide entry_by told host_next hub_stream
 step_by_lump s o r before reply left w k =
     let b = lump_seen s o r before reply left w k in
     record { wide = w; seen = rw (b.0, b.2, b.3); count = b.1 ∙ sym (ap (λ (x : Octets). length x) b.3); state = k.state }
@@ -117,21 +117,21 @@ calls_of xs = map (λ (x : Seen). x.call) xs
 
 -- the trace of a list, call by call
 trace_more : (s : Octets) (c : HostCall) (cs : List HostCall)
-    → hostTrace meaning stream_meaning s (c ∷ cs) ≡ told s c ∷ hostTrace meaning stream_meaning (hostNext meaning stream_meaning s c) cs
-unfolding hostTrace hostNext told
+    → host_trace meaning stream_meaning s (c ∷ cs) ≡ told s c ∷ host_trace meaning stream_meaning (host_next meaning stream_meaning s c) cs
+unfolding host_trace host_next told
 trace_more s (direct c) cs = refl
 trace_more s (stream room o) cs = refl
 
 -- what is known of a run: its calls are wide enough, what is seen of it is the model's trace, and it ends in the model's state
 record RunOf (s : Octets) (xs : List Seen) (end : Octets) : Type 0 where
   wide : host_calls_wide (calls_of xs) ≡ true
-  seen : map entry_of xs ≡ hostTrace meaning stream_meaning s (calls_of xs)
+  seen : map entry_of xs ≡ host_trace meaning stream_meaning s (calls_of xs)
   counts : CountsTrue xs
-  state : end ≡ hostAfter meaning stream_meaning s (calls_of xs)
+  state : end ≡ host_after meaning stream_meaning s (calls_of xs)
 
 -- a step before a run
 run_more : (s next end : Octets) (x : Seen) (xs : List Seen) → StepOf s x.call x.returned x.reply next → RunOf next xs end → RunOf s (x ∷ xs) end
-unfolding calls_of host_calls_wide hostAfter entry_of CountsTrue
+unfolding calls_of host_calls_wide host_after entry_of CountsTrue
 run_more s next end x xs a b = record {
   wide = both a.wide b.wide;
   seen = rw (trace_more s x.call (calls_of xs), a.seen, b.seen, a.state) refl;
@@ -141,7 +141,7 @@ run_more s next end x xs a b = record {
 
 -- every run
 run_of : (s end : Octets) (xs : List Seen) → Run s xs end → RunOf s xs end
-unfolding calls_of host_calls_wide hostTrace hostAfter CountsTrue
+unfolding calls_of host_calls_wide host_trace host_after CountsTrue
 run_of s end xs ends = record { wide = refl; seen = refl; counts = tt; state = refl }
 run_of s end xs (names index which r k more) = run_of s end xs more
 run_of s end xs (on_air index r k more) = run_of s end xs more
@@ -175,7 +175,7 @@ returns_made o b = record { number = refl; reply = refl; state = refl }
 
 -- a call on a state, and its step
 Made : Octets → HostCall → Type 0
-Made s c = (x : Seen) × (x.call ≡ c) × Step s x.call x.returned x.reply (hostNext meaning stream_meaning s c)
+Made s c = (x : Seen) × (x.call ≡ c) × Step s x.call x.returned x.reply (host_next meaning stream_meaning s c)
 
 -- what holds for the length of every buffer holds for every number
 by_room : (Q : ℕ → Type 0) (room : ℕ) → ((b : Octets) → Q (length b)) → Q room
@@ -200,7 +200,7 @@ save_same s room =
 
 -- a save's step
 save_made : (s b : Octets) → Made s (direct (Hub.save (length b)))
-unfolding Made hostNext hub_save seen_made
+unfolding Made host_next hub_save seen_made
 save_made s b =
     rw (save_same s (length b)) (
       seen_made s (Hub.save (length b)) b,
@@ -211,7 +211,7 @@ save_made s b =
 
 -- the step of every call
 step_made : (s : Octets) (c : Call) → call_wide c ≡ true → Made s (direct c)
-unfolding Made hostNext call_wide hub_command hub_report hub_clock hub_plug hub_unplug seen_made
+unfolding Made host_next call_wide hub_command hub_report hub_clock hub_plug hub_unplug seen_made
 step_made s (Hub.command room packet) w =
     by_room (λ n. Made s (direct (Hub.command n packet))) room
     (λ b. (seen_made s (Hub.command (length b) packet) b, refl, Runs.command {before = b} w (returns_made (meaning s (Hub.command (length b) packet)) b)))
@@ -236,7 +236,7 @@ step_made s (Hub.save room) w = by_room (λ n. Made s (direct (Hub.save n))) roo
 
 -- the step of a lump
 lump_made : (s : Octets) (room : ℕ) (o : Octets) → bytes o ≡ true → Made s (stream room o)
-unfolding Made hostNext hub_stream
+unfolding Made host_next hub_stream
 lump_made s room o w =
     by_room (λ n. Made s (stream n o)) room
     (λ b. let m = hub_stream s o (length b) in (
@@ -257,10 +257,10 @@ next_made s (stream room o) w = lump_made s room o w
 
 -- EVERY LIST OF CALLS AND LUMPS HAS A RUN, on any octets as state
 pub every_list_runs : EveryListRuns
-unfolding host_calls_wide hostAfter Made
+unfolding host_calls_wide host_after Made
 every_list_runs s [] w = ([], refl, ends)
 every_list_runs s (c ∷ cs) w =
     let h = and_true (host_call_wide c) (host_calls_wide cs) w in
     let m = next_made s c h.0 in
-    let r = every_list_runs (hostNext meaning stream_meaning s c) cs h.1 in
+    let r = every_list_runs (host_next meaning stream_meaning s c) cs h.1 in
     (m.0 ∷ r.0, rw (m.1, r.1), step m.2 r.2)

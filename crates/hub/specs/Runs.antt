@@ -10,7 +10,7 @@ use Rattle.model.specs.WellFormed.{hardware_wide, host_calls_wide}
 use Rattle.model.specs.Layout.{cleared}
 use Rattle.model.specs.Meanings.{hub_clock, hub_command, hub_load, hub_look_up, hub_name, hub_on_air, hub_plug, hub_report, hub_save, hub_stream, hub_unplug, meaning}
 use Rattle.model.specs.Meanings.{plain_meaning, stream_meaning}
-use Rattle.model.specs.Demand3.{Agrees, HostEntry, assembled, entry, hostAfter, lump, made, no_pending, reduce}
+use Rattle.model.specs.Demand3.{Agrees, HostEntry, assembled, entry, host_after, lump, made, no_pending, reduce}
 use Rattle.why.specs.Meaning.{hub_why}
 use Rattle.hub.specs.Entries.{Explains, Returns, ReturnsLoaded, ReturnsTaken, look_up_number}
 
@@ -121,4 +121,4 @@ Demand3OfRuns = (buffer image s end : Octets) (r : ℕ) (xs : List Seen) → byt
 -- Runs are there: any calls and lumps with arguments as wide as their types can be made one after the other, on any octets as state.
 abbrev pub EveryListRuns : Type 0
 EveryListRuns = (s : Octets) (calls : List HostCall) → host_calls_wide calls ≡ true
-    → (xs : List Seen) × (map (λ (x : Seen). x.call) xs ≡ calls) × Run s xs (hostAfter meaning stream_meaning s calls)
+    → (xs : List Seen) × (map (λ (x : Seen). x.call) xs ≡ calls) × Run s xs (host_after meaning stream_meaning s calls)

@@ -19,7 +19,7 @@ use Rattle.model.specs.WellFormed.{open_wellformed}
 use Rattle.model.specs.Layout.{open_layout}
 use Rattle.model.specs.Meanings.{open_meanings, hub_on_air, on_air_out}
 use Rattle.model.specs.Demand3.{open_demand3, after}
-use Rattle.model.specs.Fairness.{open_fairness, longest, moments, off_air, others, secondsPassed, steady, sum_of}
+use Rattle.model.specs.Fairness.{open_fairness, longest, moments, off_air, others, seconds_passed, steady, sum_of}
 use Rattle.model.proofs.Examples.{Example, all_given, answered, dual_hardware, gives, hub_after, plug_dual, power_on, to}
 use Rattle.model.proofs.EasyErrors.{leaves, refused_with, send}
 
@@ -103,7 +103,7 @@ fair calls =
     let ms : List Schedule = moments (λ h. h) call stream_out 0 h calls in
     flag (steady (λ h. h) call stream_out 0 3 h calls) 1
     ∷ flag (off_air 3 ms) 1
-    ∷ secondsPassed (λ h. h) call stream_out h calls
+    ∷ seconds_passed (λ h. h) call stream_out h calls
     ∷ sum_of (longest ms) (others 3 instances)
     ∷ []
 

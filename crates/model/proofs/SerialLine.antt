@@ -10,7 +10,7 @@ use Rattle.model.specs.Commands.{open_commands_lem}
 use Rattle.model.specs.Image.{open_image}
 use Rattle.model.specs.Hub.{open_hub, call}
 use Rattle.model.specs.Stream.{open_stream, HostCall, Streamed, direct, stream, stream_out}
-use Rattle.model.specs.Demand3.{open_demand3, hostAfter}
+use Rattle.model.specs.Demand3.{open_demand3, host_after}
 use Rattle.model.proofs.Examples.{Example, all_given, dual_hardware, gives, plug_dual, read_version_packet, to, unknown_packet}
 use Rattle.model.proofs.EasyErrors.{refused_with}
 
@@ -26,7 +26,7 @@ singly (x ∷ o) = lump_of (x ∷ []) ∷ singly o
 -- the octets taken, the answer and the octets written of a lump that comes after others, from the fresh hub
 unfoldable pub fed_to : List HostCall → ℕ → Octets → List ℕ
 fed_to before room o =
-    let r : Streamed Hub = stream_out (hostAfter call stream_out (idle fresh) before) room o in
+    let r : Streamed Hub = stream_out (host_after call stream_out (idle fresh) before) room o in
     r.taken ∷ (r.result.answer ∷ r.result.octets)
 
 -- what Read Management Version is told: answer 0 and the reply
@@ -49,7 +49,7 @@ link_packet300 = 0x12 ∷ 0 ∷ 0 ∷ 0 ∷ (le16 (3 + 25 * 300) ++ (0 ∷ (le16
 -- the octets kept of a packet of n octets when so many of it were taken
 unfoldable pub kept_of : (n taken : ℕ) → Octets
 kept_of n taken =
-    (hostAfter call stream_out (idle fresh) (lump_of (take taken (0x13 ∷ 0 ∷ 0 ∷ 0 ∷ (le16 (n - 6) ++ replicate (n - 6) 7))) ∷ [])).waiting.kept
+    (host_after call stream_out (idle fresh) (lump_of (take taken (0x13 ∷ 0 ∷ 0 ∷ 0 ∷ (le16 (n - 6) ++ replicate (n - 6) 7))) ∷ [])).waiting.kept
 
 -- the examples
 unfoldable pub serial_line : List Example

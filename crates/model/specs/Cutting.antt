@@ -11,7 +11,7 @@ use Rattle.model.specs.Stream.{HostCall, direct, stream, Streamed, length_said, 
 use Rattle.model.specs.WellFormed.{call_wide, host_calls_wide}
 use Rattle.model.specs.Layout.{decode, encode, line_cleared}
 use Rattle.model.specs.Meanings.{state_ok, meaning, stream_meaning, hub_command}
-use Rattle.model.specs.Demand3.{Entry, entry, trace, after, HostEntry, made, lump, hostTrace, hostAfter}
+use Rattle.model.specs.Demand3.{Entry, entry, trace, after, HostEntry, made, lump, host_trace, host_after}
 
 -- the octets taken of all lumps of a list, one behind the other: what has come in of the stream
 unfoldable pub taken_octets : List HostEntry → Octets
@@ -81,8 +81,8 @@ pub data LumpTold (s o : Octets) (room : ℕ) : Streamed Octets → Type 0 where
 abbrev pub CuttingDoesNotMatter : Type 0
 CuttingDoesNotMatter = (s : Octets) (calls : List HostCall) (packets : List Octets) (rest : Octets)
     → state_ok s ≡ true → line_cleared s ≡ s → host_calls_wide calls ≡ true → every packet_ok packets ≡ true
-    → taken_octets (hostTrace meaning stream_meaning s calls) ++ rest ≡ joined packets
-    → Told s (by_packets [] packets (hostTrace meaning stream_meaning s calls)) (line_cleared (hostAfter meaning stream_meaning s calls))
+    → taken_octets (host_trace meaning stream_meaning s calls) ++ rest ≡ joined packets
+    → Told s (by_packets [] packets (host_trace meaning stream_meaning s calls)) (line_cleared (host_after meaning stream_meaning s calls))
 
 -- A host at the line: between other calls it lends the next octets, as many as it likes or none, and goes on behind those that were taken.
 pub data Feed : Type 0 where
@@ -109,5 +109,5 @@ feeds_wide (next room n ∷ fs) = feeds_wide fs
 abbrev pub LineMayBeCut : Type 0
 LineMayBeCut = (s : Octets) (feeds : List Feed) (packets : List Octets)
     → state_ok s ≡ true → line_cleared s ≡ s → feeds_wide feeds ≡ true → bytes (joined packets) ≡ true → every packet_ok packets ≡ true
-    → Told s (by_packets [] packets (hostTrace meaning stream_meaning s (fed s (joined packets) feeds)))
-    (line_cleared (hostAfter meaning stream_meaning s (fed s (joined packets) feeds)))
+    → Told s (by_packets [] packets (host_trace meaning stream_meaning s (fed s (joined packets) feeds)))
+    (line_cleared (host_after meaning stream_meaning s (fed s (joined packets) feeds)))

@@ -10,7 +10,7 @@ use Rattle.model.specs.Stream.{HostCall, Streamed, direct, stream}
 use Rattle.model.specs.WellFormed.{host_calls_wide}
 use Rattle.model.specs.Layout.{decode}
 use Rattle.model.specs.Meanings.{meaning, state_ok, stream_meaning}
-use Rattle.model.specs.Demand3.{hostNext}
+use Rattle.model.specs.Demand3.{host_next}
 
 -- Moments -----------------------------------------------------------------------------------------------------------------------------------
 
@@ -37,33 +37,33 @@ steady_in k (some c) = c.radio.powered && (c.radio.low_energy && present c.host.
 -- The theorem is over the octets of the lent state, with `decode`, `meaning` and `stream_meaning`; its proof is over the model's hubs themselves.
 module _ {S : Type 0} (view : S → Hub) (run : S → Call → Result S) (feed : S → ℕ → Octets → Streamed S) where
   -- the seconds that pass in a call: the step of a clock reading that is taken; in a lump none pass
-  unfoldable pub secondsIn : S → HostCall → ℕ
-  secondsIn s (direct (clock room reading)) =
+  unfoldable pub seconds_in : S → HostCall → ℕ
+  seconds_in s (direct (clock room reading)) =
       elim (eqb (run s (clock room reading)).answer (number_of (Done 0))) [
         | true ↦ step_of (view s).plain.clock reading
         | false ↦ 0
       ]
-  secondsIn s (direct (command room packet)) = 0
-  secondsIn s (direct (report room i status)) = 0
-  secondsIn s (direct (plug room i f)) = 0
-  secondsIn s (direct (unplug room i)) = 0
-  secondsIn s (direct (save room)) = 0
-  secondsIn s (stream room o) = 0
+  seconds_in s (direct (command room packet)) = 0
+  seconds_in s (direct (report room i status)) = 0
+  seconds_in s (direct (plug room i f)) = 0
+  seconds_in s (direct (unplug room i)) = 0
+  seconds_in s (direct (save room)) = 0
+  seconds_in s (stream room o) = 0
 
   -- the seconds that pass in a list of calls and lumps
-  unfoldable pub secondsPassed : S → List HostCall → ℕ
-  secondsPassed s [] = 0
-  secondsPassed s (c ∷ cs) = secondsIn s c + secondsPassed (hostNext run feed s c) cs
+  unfoldable pub seconds_passed : S → List HostCall → ℕ
+  seconds_passed s [] = 0
+  seconds_passed s (c ∷ cs) = seconds_in s c + seconds_passed (host_next run feed s c) cs
 
   -- the schedules of an index at every moment: at the start, after each single second of a clock step, after each call and after each lump
   unfoldable pub moments : ℕ → S → List HostCall → List Schedule
   moments i s [] = schedule_at (view s) i ∷ []
-  moments i s (c ∷ cs) = schedule_at (view s) i ∷ (each (secondsIn s c) (schedule_at (view s) i) ++ moments i (hostNext run feed s c) cs)
+  moments i s (c ∷ cs) = schedule_at (view s) i ∷ (each (seconds_in s c) (schedule_at (view s) i) ++ moments i (host_next run feed s c) cs)
 
   -- power and LE stay on and instance k stays there: at the start, after each call and after each lump
   unfoldable pub steady : ℕ → ℕ → S → List HostCall → Bool
   steady i k s [] = steady_in k (controller_at (view s).plain i)
-  steady i k s (c ∷ cs) = steady_in k (controller_at (view s).plain i) && steady i k (hostNext run feed s c) cs
+  steady i k s (c ∷ cs) = steady_in k (controller_at (view s).plain i) && steady i k (host_next run feed s c) cs
 
 -- What is asked of them ---------------------------------------------------------------------------------------------------------------------
 
@@ -95,16 +95,16 @@ abbrev pub Fairness : Type 0
 Fairness = (s : Octets) (i k : ℕ) (calls : List HostCall) → state_ok s ≡ true → host_calls_wide calls ≡ true
     → steady decode meaning stream_meaning i k s calls ≡ true
     → off_air k (moments decode meaning stream_meaning i s calls) ≡ true
-    → secondsPassed decode meaning stream_meaning s calls < sum_of (longest (moments decode meaning stream_meaning i s calls)) (others k instances)
+    → seconds_passed decode meaning stream_meaning s calls < sum_of (longest (moments decode meaning stream_meaning i s calls)) (others k instances)
 
 -- The same, told the other way: once that many seconds have passed, k was on air at some moment.
 abbrev pub InTime : Type 0
 InTime = (s : Octets) (i k : ℕ) (calls : List HostCall) → state_ok s ≡ true → host_calls_wide calls ≡ true
     → steady decode meaning stream_meaning i k s calls ≡ true
-    → sum_of (longest (moments decode meaning stream_meaning i s calls)) (others k instances) ≤ secondsPassed decode meaning stream_meaning s calls
+    → sum_of (longest (moments decode meaning stream_meaning i s calls)) (others k instances) ≤ seconds_passed decode meaning stream_meaning s calls
     → off_air k (moments decode meaning stream_meaning i s calls) ≡ false
 
 -- Named on an `unfolding` line, this opens every definition of the module: for examples that are computed.
 unfoldable pub open_fairness : Unit {0}
-unfolding schedule_in schedule_at secondsIn secondsPassed each moments steady_in steady off_air longest others sum_of
+unfolding schedule_in schedule_at seconds_in seconds_passed each moments steady_in steady off_air longest others sum_of
 open_fairness = tt

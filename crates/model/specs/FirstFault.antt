@@ -51,7 +51,7 @@ fixed_then v low next =
     field_then 4 BadField (λ x. flags_right v (hardware_by address version manufacturer supported) (number 0 x)) λ flags.
     field_then 6 BadField (λ x. static_fits (hardware_by address version manufacturer supported) x) λ static.
     name_then v 249 λ name.
-    name_then v 11 λ shortName.
+    name_then v 11 λ short_name.
     next (octet i 0) (hardware_by address version manufacturer supported)
 
 -- n records behind those that were right: a fault of its own, then a repeat of one of these

@@ -133,8 +133,8 @@ fixed_part v low = do
   flags ← field 4 BadField (λ x. flags_right v (hardware_by address version manufacturer supported) (number 0 x))
   static ← field 6 BadField (λ x. static_fits (hardware_by address version manufacturer supported) x)
   name ← name_field v 249
-  shortName ← name_field v 11
-  give (fixed_by v (octet i 0) (hardware_by address version manufacturer supported) (number 0 flags) static (name ++ shortName))
+  short_name ← name_field v 11
+  give (fixed_by v (octet i 0) (hardware_by address version manufacturer supported) (number 0 flags) static (name ++ short_name))
 
 -- The walk: what is kept, what is dropped -----------------------------------------------------------------------------------------------------------
 

@@ -10,7 +10,7 @@ use Rattle.model.specs.State.{PlainHub, controller_at}
 use Rattle.model.specs.declared.Hardware.{Hardware}
 use Rattle.model.specs.declared.Reason.TheVariants.{CodeUnknown, ControllerAbsent}
 use Rattle.model.specs.Rules.{ImmediateRule, RadioRule, immediate, radio}
-use Rattle.model.specs.Rules.{general as generalRule}
+use Rattle.model.specs.Rules.{general as general_rule}
 use Rattle.model.specs.Commands.{rule}
 use Rattle.model.specs.Hub.{Call, command, report, clock, plug, unplug, save, save_out, Outcome, refused, bad_packet, no_room, anyway, call}
 use Rattle.model.specs.Hub.{call_plain, command_out, under_way, index_of, code_of, params_of, packet_ok, verdict, by_rule, by_status, immediate_at, radio_at}
@@ -71,7 +71,7 @@ unfolding any_command by_rule command_out ended
 route_unknown s i code ps e = rw e
 
 -- a general command asks for no controller
-pub route_general : (s : Octets) (i code : ℕ) (ps : Octets) (f : PlainHub → Octets) → rule code ≡ some (generalRule f)
+pub route_general : (s : Octets) (i code : ℕ) (ps : Octets) (f : PlainHub → Octets) → rule code ≡ some (general_rule f)
     → any_command s i code ps ≡ general_command s i code ps f
 unfolding any_command by_rule command_out ended general_command
 route_general s i code ps f e = rw e

@@ -32,10 +32,10 @@ pub record WasSalvaged (o : Octets) (s : Salvaged) : Type 0 where
   pub list : s.list ≡ list_of (offsets version o)
 
 -- by its answer
-pub was_salvaged : (o : Octets) (room listRoom : ℕ) → (hub_salvage o room listRoom).answer ≡ 0 → WasSalvaged o (hub_salvage o room listRoom)
+pub was_salvaged : (o : Octets) (room list_room : ℕ) → (hub_salvage o room list_room).answer ≡ 0 → WasSalvaged o (hub_salvage o room list_room)
 unfolding hub_salvage salvaged_as only_answer
-was_salvaged o room listRoom =
-    either {A = Salvaged} (λ s. s.answer ≡ 0 → WasSalvaged o s) (ltb room Lengths.largest_image || ltb listRoom (length o + list_more)) (λ _ e. absurd (omega arith))
+was_salvaged o room list_room =
+    either {A = Salvaged} (λ s. s.answer ≡ 0 → WasSalvaged o s) (ltb room Lengths.largest_image || ltb list_room (length o + list_more)) (λ _ e. absurd (omega arith))
     (λ _. either {A = Salvaged} (λ s. s.answer ≡ 0 → WasSalvaged o s) (leb 5 (length o)) (λ l. by (either_version (octet o 4)) refl l) (λ _ e. absurd (omega arith)))
   where
     by : (x : Option Version) → either_version (octet o 4) ≡ x → leb 5 (length o) ≡ true → (salvaged_as o x).answer ≡ 0 → WasSalvaged o (salvaged_as o x)
@@ -50,10 +50,10 @@ kept_accepted o v w =
     saved_accepted v (hub_of (walk v (drop 5 o))) (kept_ok v (drop 5 o) (bytes_drop 5 o w)) (walk_kept v (drop 5 o) (bytes_drop 5 o w)).said
 
 -- an accepted image comes out as it is, with an empty list
-pub accepted_same : (v : Version) (o : Octets) (p : PlainHub) (room listRoom : ℕ) → bytes o ≡ true → Accepted v o p
-    → ltb room Lengths.largest_image || ltb listRoom (length o + list_more) ≡ false → hub_salvage o room listRoom ≡ record { answer = 0; offset = 0; image = o; list = [] }
+pub accepted_same : (v : Version) (o : Octets) (p : PlainHub) (room list_room : ℕ) → bytes o ≡ true → Accepted v o p
+    → ltb room Lengths.largest_image || ltb list_room (length o + list_more) ≡ false → hub_salvage o room list_room ≡ record { answer = 0; offset = 0; image = o; list = [] }
 unfolding hub_salvage salvaged_as offsets length_item list_of joined
-accepted_same v o p room listRoom w h r =
+accepted_same v o p room list_room w h r =
     rw (r, hub_salvage, h.long, h.version, either_takes v, h.hub, written_again v o p w h, h.size, length_item, h.whole)
 
 -- an empty list: the length field is right, and nothing is dropped

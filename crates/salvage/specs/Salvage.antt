@@ -51,8 +51,8 @@ salvaged_as o (some v) =
     record { answer = number_of (Done (length image)); offset = 0; image = image; list = list_of (offsets v o) }
 
 -- Room for the largest image and for the list comes first; then the version octet, which has to be there (02, E9). Where it is not, the fault is at the end.
-unfoldable pub hub_salvage : (octets : Octets) (room listRoom : ℕ) → Salvaged
-hub_salvage o room listRoom = elim (ltb room Lengths.largest_image || ltb listRoom (length o + list_more)) [
+unfoldable pub hub_salvage : (octets : Octets) (room list_room : ℕ) → Salvaged
+hub_salvage o room list_room = elim (ltb room Lengths.largest_image || ltb list_room (length o + list_more)) [
   | true ↦ only_answer SmallBuffer
   | false ↦ elim (leb 5 (length o)) [ true ↦ salvaged_as o (either_version (octet o 4)) | false ↦ only_answer (BadImage BadVersion (length o)) ]
 ]

@@ -7,7 +7,7 @@ use mathlib.Core.List.{List, [], ◌∷◌}
 use lib.ListN.{length, take}
 use Rattle.model.specs.Advertising.{following, seconds, value_of, with_value}
 use Rattle.model.specs.Fairness.{sum_of}
-use Rattle.model.proofs.Model.Tests.{Five, five as fiveOf, five_of}
+use Rattle.model.proofs.Model.Tests.{Five, five as each_of, five_of}
 use Rattle.turns.specs.Ring.{next}
 use Rattle.turns.specs.Walk.{Stays, Rounds, whole, later, falls, count}
 use Rattle.turns.proofs.Values.{with_same, length_with}
@@ -87,7 +87,7 @@ unfolding fallen falls later value_of with_value following
 fallen_ring ds ts l m = go (five_of ds l) (five_of ts m)
   where
     go : {ds ts : List ℕ} → Five ds → Five ts → (p : ℕ) → p < 5 → fallen ds ts (take 5 (following p)) ≡ falls 1 ds ts
-    go (fiveOf a b c d e) (fiveOf t u v w x) = five _ (simp one-mul) (simp one-mul) (simp one-mul) (simp one-mul) (simp one-mul)
+    go (each_of a b c d e) (each_of t u v w x) = five _ (simp one-mul) (simp one-mul) (simp one-mul) (simp one-mul) (simp one-mul)
 
 -- no instance goes in a round: none does in five places, from any on
 stay_ring : (ds ts : List ℕ) → length ds ≡ 5 → length ts ≡ 5 → Rounds 1 ds ts → (p : ℕ) → p < 5 → AllStay ds ts (take 5 (following p))
@@ -95,7 +95,7 @@ unfolding value_of with_value following
 stay_ring ds ts l m = go (five_of ds l) (five_of ts m)
   where
     go : {ds ts : List ℕ} → Five ds → Five ts → Rounds 1 ds ts → (p : ℕ) → p < 5 → AllStay ds ts (take 5 (following p))
-    go (fiveOf a b c d e) (fiveOf t u v w x) s =
+    go (each_of a b c d e) (each_of t u v w x) s =
         let s1 = stays_one a t (s 1) in
         let s2 = stays_one b u (s 2) in
         let s3 = stays_one c v (s 3) in
@@ -120,7 +120,7 @@ ring_stay ds ts l m = go (five_of ds l) (five_of ts m)
     each a b c d e t u v w x s1 s2 s3 s4 s5 (suc (suc (suc (suc (suc (suc k)))))) = inl refl
 
     go : {ds ts : List ℕ} → Five ds → Five ts → (p : ℕ) → p < 5 → AllStay ds ts (take 5 (following p)) → Rounds 1 ds ts
-    go (fiveOf a b c d e) (fiveOf t u v w x) =
+    go (each_of a b c d e) (each_of t u v w x) =
         five _
         (λ s. each a b c d e t u v w x s.0 s.1.0 s.1.1.0 s.1.1.1.0 s.1.1.1.1.0)
         (λ s. each a b c d e t u v w x s.1.1.1.1.0 s.0 s.1.0 s.1.1.0 s.1.1.1.0)
@@ -146,13 +146,13 @@ unfolding value_of falls later
 value_falls r ds ts l = go (five_of ts l)
   where
     go : {ts : List ℕ} → Five ts → (k : ℕ) → value_of (falls r ds ts) k ≡ value_of ts k - r * value_of ds k
-    go (fiveOf t u v w x) zero = omega arith
-    go (fiveOf t u v w x) (suc zero) = refl
-    go (fiveOf t u v w x) (suc (suc zero)) = refl
-    go (fiveOf t u v w x) (suc (suc (suc zero))) = refl
-    go (fiveOf t u v w x) (suc (suc (suc (suc zero)))) = refl
-    go (fiveOf t u v w x) (suc (suc (suc (suc (suc zero))))) = refl
-    go (fiveOf t u v w x) (suc (suc (suc (suc (suc (suc k)))))) = omega arith
+    go (each_of t u v w x) zero = omega arith
+    go (each_of t u v w x) (suc zero) = refl
+    go (each_of t u v w x) (suc (suc zero)) = refl
+    go (each_of t u v w x) (suc (suc (suc zero))) = refl
+    go (each_of t u v w x) (suc (suc (suc (suc zero)))) = refl
+    go (each_of t u v w x) (suc (suc (suc (suc (suc zero))))) = refl
+    go (each_of t u v w x) (suc (suc (suc (suc (suc (suc k)))))) = omega arith
 
 -- as many as before
 length_falls : (r : ℕ) (ds ts : List ℕ) → length (falls r ds ts) ≡ 5
@@ -168,7 +168,7 @@ falls_none ds ts l = go (five_of ts l)
     none t d = omega arith
 
     go : {ts : List ℕ} → Five ts → falls 0 ds ts ≡ ts
-    go (fiveOf t u v w x) = simp none
+    go (each_of t u v w x) = simp none
 
 -- one, and r more
 falls_more : (r : ℕ) (ds ts : List ℕ) → falls r ds (falls 1 ds ts) ≡ falls (suc r) ds ts

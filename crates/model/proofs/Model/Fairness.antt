@@ -31,8 +31,8 @@ use Rattle.model.specs.Hub.{tick_slot, under_way}
 use Rattle.model.specs.Hub.{answer_of, unless_busy, unplug, unplug_out, unplugged, verdict, with_open, within}
 use Rattle.model.specs.Stream.{HostCall, Streamed, direct, stream, stream_out}
 use Rattle.model.specs.WellFormed.{host_call_wide, schedule_ok, well_formed}
-use Rattle.model.specs.Demand3.{hostNext}
-use Rattle.model.specs.Fairness.{each, off_air, schedule_at, schedule_in, secondsIn, steady_in}
+use Rattle.model.specs.Demand3.{host_next}
+use Rattle.model.specs.Fairness.{each, off_air, schedule_at, schedule_in, seconds_in, steady_in}
 use Rattle.model.proofs.Model.Advertising.{advertising_fit}
 use Rattle.model.proofs.Model.EveryRow.{Each, ◌&◌, end, found}
 use Rattle.model.proofs.Model.Invariant.{put_other, put_same, slot_tick}
@@ -398,16 +398,16 @@ tick_schedule n (some c) = refl
 
 -- the hub after a call or a lump
 abbrev pub next : Hub → HostCall → Hub
-next h c = hostNext call stream_out h c
+next h c = host_next call stream_out h c
 
 -- the seconds that pass in it
 abbrev pub passing : Hub → HostCall → ℕ
-passing h c = secondsIn itself call stream_out h c
+passing h c = seconds_in itself call stream_out h c
 
 -- a clock reading is as many seconds as pass in it, for each index
 clock_schedule : (i : ℕ) (h : Hub) (room reading : ℕ) → schedule_at (call h (clock room reading)).state i
     ≡ seconds (passing h (direct (clock room reading))) (schedule_at h i)
-unfolding schedule_at secondsIn call keep call_plain within clock_out state_of answer_of seconds
+unfolding schedule_at seconds_in call keep call_plain within clock_out state_of answer_of seconds
 clock_schedule i h room reading =
     let n : ℕ = step_of h.plain.clock reading in
     either Fine (ltb room 1024) (λ _. refl) (λ _. either Fine (leb (2 ^ 31) n) (λ _. refl)
@@ -438,7 +438,7 @@ no_second m i k h c u f = forward_wait m i k h.plain (next h c).plain _ _ refl r
 -- AFTER A CALL OR A LUMP, k waits as much less as seconds passed
 pub next_wait : (m : ℕ → ℕ) (i k : ℕ) (h : Hub) (c : HostCall) → well_formed h ≡ true → host_call_wide c ≡ true → Undisturbed m i k h c
     → waiting m k (schedule_at (next h c) i) + passing h c ≤ waiting m k (schedule_at h i)
-unfolding hostNext secondsIn host_call_wide call keep call_plain state_of save_out
+unfolding host_next seconds_in host_call_wide call keep call_plain state_of save_out
 next_wait m i k h (direct (clock room reading)) w cw u = rw (clock_schedule i h room reading)
     (seconds_wait m k (passing h (direct (clock room reading))) (schedule_at h i) u.before u.off u.each_under).1
 next_wait m i k h (direct (command room packet)) w cw u =

@@ -5,7 +5,7 @@ use Rattle.model.specs.Octets.{Octets, bytes, joined}
 use Rattle.model.specs.Stream.{Streamed}
 use Rattle.model.specs.WellFormed.{call_wide, host_call_wide, host_calls_wide}
 use Rattle.model.specs.Meanings.{hub_stream, meaning, stream_meaning}
-use Rattle.model.specs.Demand3.{hostTrace}
+use Rattle.model.specs.Demand3.{host_trace}
 use Rattle.model.specs.Cutting.{Feed, LineMayBeCut, LumpTold, fed, feeds_wide, finishes_packet, next, not_well, other, taken_octets, takes_all, too_small}
 use Rattle.model.proofs.Model.Line.{cutting}
 use Rattle.model.proofs.Model.OneLump.{lump_told}
@@ -35,8 +35,8 @@ left s line (other c ∷ fs) = left (meaning s c).state line fs
 left s line (next room n ∷ fs) = let r : Streamed Octets = stream_meaning s room (take n line) in left r.result.state (drop r.taken line) fs
 
 -- what is taken, and what is left, is the line
-taken_left : (fs : List Feed) (s line : Octets) → bytes line ≡ true → taken_octets (hostTrace meaning stream_meaning s (fed s line fs)) ++ left s line fs ≡ line
-unfolding taken_octets hostTrace fed left
+taken_left : (fs : List Feed) (s line : Octets) → bytes line ≡ true → taken_octets (host_trace meaning stream_meaning s (fed s line fs)) ++ left s line fs ≡ line
+unfolding taken_octets host_trace fed left
 taken_left [] s line w = refl
 taken_left (other c ∷ fs) s line w = taken_left fs (meaning s c).state line w
 taken_left (next room n ∷ fs) s line w =

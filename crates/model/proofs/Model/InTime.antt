@@ -11,8 +11,8 @@ use Rattle.model.specs.Stream.{HostCall, Streamed, direct, stream, stream_out}
 use Rattle.model.specs.WellFormed.{host_call_wide, host_calls_wide, well_formed}
 use Rattle.model.specs.Layout.{decode, encode}
 use Rattle.model.specs.Meanings.{laid_out, meaning, stream_laid_out, stream_meaning}
-use Rattle.model.specs.Demand3.{hostNext}
-use Rattle.model.specs.Fairness.{Fairness, InTime, each, longest, moments, off_air, others, schedule_at, secondsIn, secondsPassed, steady, steady_in}
+use Rattle.model.specs.Demand3.{host_next}
+use Rattle.model.specs.Fairness.{Fairness, InTime, each, longest, moments, off_air, others, schedule_at, seconds_in, seconds_passed, steady, steady_in}
 use Rattle.model.specs.Fairness.{sum_of}
 use Rattle.model.proofs.Model.Decode.{decode_encode}
 use Rattle.model.proofs.Model.Demand3.{meaning_is, state_back, state_well}
@@ -60,8 +60,8 @@ begins m i k h (c ∷ cs) e o (one_more u us) = record
 list_wait : (m : ℕ → ℕ) (i k : ℕ) (calls : List HostCall) (h : Hub) → well_formed h ≡ true → host_calls_wide calls ≡ true
     → steady itself call stream_out i k h calls ≡ true
     → off_air k (moments itself call stream_out i h calls) ≡ true
-    → AllUnder m (moments itself call stream_out i h calls) → secondsPassed itself call stream_out h calls + 1 ≤ waiting m k (schedule_at h i)
-unfolding secondsPassed host_calls_wide steady moments off_air schedule_at
+    → AllUnder m (moments itself call stream_out i h calls) → seconds_passed itself call stream_out h calls + 1 ≤ waiting m k (schedule_at h i)
+unfolding seconds_passed host_calls_wide steady moments off_air schedule_at
 list_wait m i k [] h w cw e o u =
     let b = begins m i k h [] e o u in
     omega (arith, waits_least m k (schedule_at h i) (waits_in k h i _ refl w b.steady b.off))
@@ -89,7 +89,7 @@ list_wait m i k (c ∷ cs) h w cw e o (one_more us ut) =
 -- FAIRNESS, over the model's hubs
 fair : (h : Hub) (i k : ℕ) (calls : List HostCall) → well_formed h ≡ true → host_calls_wide calls ≡ true → steady itself call stream_out i k h calls ≡ true
     → off_air k (moments itself call stream_out i h calls) ≡ true
-    → secondsPassed itself call stream_out h calls < sum_of (longest (moments itself call stream_out i h calls)) (others k instances)
+    → seconds_passed itself call stream_out h calls < sum_of (longest (moments itself call stream_out i h calls)) (others k instances)
 unfolding schedule_at
 fair h i k calls w cw e o =
     let m : ℕ → ℕ = longest (moments itself call stream_out i h calls) in
@@ -100,14 +100,14 @@ fair h i k calls w cw e o =
 -- 2. The same over the lent state --------------------------------------------------------------------------------------------------------------
 
 -- a call or a lump on the state of a well-formed hub leaves the state of the hub that it leaves
-next_is : (h : Hub) (c : HostCall) → well_formed h ≡ true → hostNext meaning stream_meaning (encode h) c ≡ encode (next h c)
-unfolding hostNext laid_out stream_laid_out
+next_is : (h : Hub) (c : HostCall) → well_formed h ≡ true → host_next meaning stream_meaning (encode h) c ≡ encode (next h c)
+unfolding host_next laid_out stream_laid_out
 next_is h (direct c) w = ap (λ (r : Result Octets). r.state) (meaning_is h c w)
 next_is h (stream room o) w = ap (λ (r : Streamed Octets). r.result.state) (stream_is h room o w)
 
 -- as many seconds pass in it as in the call on the hub
-same_seconds : (h : Hub) (c : HostCall) → well_formed h ≡ true → secondsIn decode meaning stream_meaning (encode h) c ≡ passing h c
-unfolding secondsIn laid_out
+same_seconds : (h : Hub) (c : HostCall) → well_formed h ≡ true → seconds_in decode meaning stream_meaning (encode h) c ≡ passing h c
+unfolding seconds_in laid_out
 same_seconds h (direct (clock room reading)) w =
     ap (λ (r : Result Octets). passed r.answer (decode (encode h))) (meaning_is h (clock room reading) w)
     ∙ ap (passed (call h (clock room reading)).answer) (decode_encode h w)
@@ -123,8 +123,8 @@ same_seconds h (stream room o) w = refl
 
 -- the same of a list of calls and lumps
 same_passed : (calls : List HostCall) (h : Hub) → well_formed h ≡ true → host_calls_wide calls ≡ true
-    → secondsPassed decode meaning stream_meaning (encode h) calls ≡ secondsPassed itself call stream_out h calls
-unfolding secondsPassed host_calls_wide
+    → seconds_passed decode meaning stream_meaning (encode h) calls ≡ seconds_passed itself call stream_out h calls
+unfolding seconds_passed host_calls_wide
 same_passed [] h w cw = refl
 same_passed (c ∷ cs) h w cw =
     let a = and_true (host_call_wide c) _ cw in
@@ -157,7 +157,7 @@ same_steady i k (c ∷ cs) h w cw =
 encoded_fair : (h : Hub) (i k : ℕ) (calls : List HostCall) → well_formed h ≡ true → host_calls_wide calls ≡ true
     → steady decode meaning stream_meaning i k (encode h) calls ≡ true
     → off_air k (moments decode meaning stream_meaning i (encode h) calls) ≡ true
-    → secondsPassed decode meaning stream_meaning (encode h) calls
+    → seconds_passed decode meaning stream_meaning (encode h) calls
     < sum_of (longest (moments decode meaning stream_meaning i (encode h) calls)) (others k instances)
 encoded_fair h i k calls w cw = rw (same_steady i k calls h w cw, same_moments i calls h w cw, same_passed calls h w cw) (fair h i k calls w cw)
 

@@ -11,7 +11,7 @@ use Rattle.model.specs.Stream.{HostCall, Streamed, direct, kept_count, length_sa
 use Rattle.model.specs.WellFormed.{call_wide, calls_wide, host_call_wide, host_calls_wide, plain_ok, waiting_ok, well_formed}
 use Rattle.model.specs.Layout.{cleared, decode, encode, line_cleared}
 use Rattle.model.specs.Meanings.{hub_load, laid_out, meaning, state_ok, stream_laid_out, stream_meaning}
-use Rattle.model.specs.Demand3.{Demand3, Entry, HostEntry, after, assembled, entry, hostAfter, hostNext, hostTrace, lump, made, trace}
+use Rattle.model.specs.Demand3.{Demand3, Entry, HostEntry, after, assembled, entry, host_after, host_next, host_trace, lump, made, trace}
 use Rattle.model.specs.Cutting.{CuttingDoesNotMatter, Told, by_packets, calls_of, taken_octets}
 use Rattle.model.proofs.Model.Decode.{decode_encode}
 use Rattle.model.proofs.Model.Demand3.{demand3_direct, encode_ok, meaning_is, state_back, state_well, taken}
@@ -114,15 +114,15 @@ framing_more t before room n a o w es end l h f = record { framed = rw (l, assem
 -- what is to be shown of a list: from every hub g and all octets taken before
 abbrev Frames : List HostCall → Type 0
 Frames cs = (g : Hub) (before : Octets) → Short before → bytes before ≡ true → well_formed (with_waiting g nothing_waits) ≡ true
-    → Framing (encode (with_waiting g nothing_waits)) before (hostTrace meaning stream_meaning (encode (with_waiting g (waiting_of before))) cs)
-    (hostAfter meaning stream_meaning (encode (with_waiting g (waiting_of before))) cs)
+    → Framing (encode (with_waiting g nothing_waits)) before (host_trace meaning stream_meaning (encode (with_waiting g (waiting_of before))) cs)
+    (host_after meaning stream_meaning (encode (with_waiting g (waiting_of before))) cs)
 
 -- a lump, by what it comes to
 frames_lump : (cs : List HostCall) → Frames cs → (g : Hub) (room : ℕ) (before o : Octets) → Short before → bytes before ≡ true → bytes o ≡ true
     → well_formed (with_waiting g nothing_waits) ≡ true → (r : Streamed Hub) → Step g room before o r
     → Framing (encode (with_waiting g nothing_waits)) before
-    (lump room o r.taken r.result.answer r.result.octets ∷ hostTrace meaning stream_meaning (encode r.result.state) cs)
-    (hostAfter meaning stream_meaning (encode r.result.state) cs)
+    (lump room o r.taken r.result.answer r.result.octets ∷ host_trace meaning stream_meaning (encode r.result.state) cs)
+    (host_after meaning stream_meaning (encode r.result.state) cs)
 unfolding laid_out waiting_in bytes call_wide
 frames_lump cs ih g room before o h b wo e r (small t) = framing_more _ before room 0 4 o [] _ _ refl (rw append-nil h) (rw append-nil (ih g before h b e))
 frames_lump cs ih g room before o h b wo e r (waits k) =
@@ -135,7 +135,7 @@ frames_lump cs ih g room before o h b wo e r (acts n z m t k) =
 
 -- EVERY LIST OF CALLS AND LUMPS, from every well-formed hub and all octets taken before
 frames : (cs : List HostCall) → host_calls_wide cs ≡ true → Frames cs
-unfolding hostTrace hostNext hostAfter host_calls_wide host_call_wide assembled trace after calls_of calls_wide laid_out stream_laid_out waiting_in with_waiting
+unfolding host_trace host_next host_after host_calls_wide host_call_wide assembled trace after calls_of calls_wide laid_out stream_laid_out waiting_in with_waiting
 frames [] w g before h b e =
     let p : plain_ok g.plain ≡ true = (well_fit (with_waiting g nothing_waits) e).plain in
     record {
@@ -150,14 +150,14 @@ frames (direct c ∷ cs) w g before h b e =
     let a = and_true (call_wide c) _ w in
     let k : well_formed (with_waiting g (waiting_of before)) ≡ true = well_waiting (with_waiting g nothing_waits) (waiting_of before) e (waiting_ok_lem before b h) in
     let f = frames cs a.1 (call g c).state before h b (next_well g c e a.0) in
-    rw (hostNext, call_is g (waiting_of before) c k) (record {
+    rw (host_next, call_is g (waiting_of before) c k) (record {
       framed = framed_call _ c (laid_out (waiting_in nothing_waits (call g c))) _ _ (call_is g nothing_waits c e) a.0 f.framed;
       parsed = called f.parsed;
     })
 frames (stream room o ∷ cs) w g before h b e =
     let a = and_true (bytes o) _ w in
     let k : well_formed (with_waiting g (waiting_of before)) ≡ true = well_waiting (with_waiting g nothing_waits) (waiting_of before) e (waiting_ok_lem before b h) in
-    rw (hostNext, stream_is (with_waiting g (waiting_of before)) room o k)
+    rw (host_next, stream_is (with_waiting g (waiting_of before)) room o k)
     (frames_lump cs (frames cs a.1) g room before o h b a.0 e _ (step g room before o b a.0 h))
 
 -- nothing waiting is well formed
@@ -167,7 +167,7 @@ nothing_ok = rw nothing_waits_lem (waiting_ok_lem [] refl none_short)
 
 -- from a well-formed state with nothing waiting
 starts : (s : Octets) (calls : List HostCall) → state_ok s ≡ true → line_cleared s ≡ s → host_calls_wide calls ≡ true
-    → Framing s [] (hostTrace meaning stream_meaning s calls) (hostAfter meaning stream_meaning s calls)
+    → Framing s [] (host_trace meaning stream_meaning s calls) (host_after meaning stream_meaning s calls)
 unfolding bytes
 starts s calls e z w =
     let k = state_well s e in
@@ -188,7 +188,7 @@ pub demand3 : Demand3
 demand3 buffer image calls b w e =
     let s : Octets = (hub_load buffer image).state in
     let f = (starts s calls (load_state buffer image b e) (loaded_clear buffer image b e) w).framed in
-    let es : List Entry = assembled [] (hostTrace meaning stream_meaning s calls) in
+    let es : List Entry = assembled [] (host_trace meaning stream_meaning s calls) in
     rw f.clear (rw (← f.told.entries) at (demand3_direct buffer image (calls_of es) b f.wide e))
 
 -- 4. Cutting does not matter ----------------------------------------------------------------------------------------------------------------------
@@ -257,4 +257,4 @@ same_packets before es (p ∷ ps) rest (packet {o = o} {w = w} {room = room} {n 
 pub cutting : CuttingDoesNotMatter
 cutting s calls packets rest e z w k j =
     let f = starts s calls e z w in
-    rw (same_packets [] (hostTrace meaning stream_meaning s calls) packets rest f.parsed k j) f.framed.told
+    rw (same_packets [] (host_trace meaning stream_meaning s calls) packets rest f.parsed k j) f.framed.told

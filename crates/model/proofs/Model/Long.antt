@@ -32,12 +32,12 @@ pub record LongParams (ps : Octets) : Type 0 where
   pub octets : bytes ps ≡ true
 
 -- of three answers that of the list with this code, and no for a code that is none of a list
-unfoldable pub by_list : (code : ℕ) (link longTerm identity : Bool) → Bool
-by_list code link longTerm identity =
+unfoldable pub by_list : (code : ℕ) (link long_term identity : Bool) → Bool
+by_list code link long_term identity =
     elim (eqb code Codes.load_link_keys) [
       | true ↦ link
       | false ↦ elim (eqb code Codes.load_long_term_keys) [
-        | true ↦ longTerm
+        | true ↦ long_term
         | false ↦ elim (eqb code Codes.load_identity_keys) [ true ↦ identity | false ↦ false ]
       ]
     ]

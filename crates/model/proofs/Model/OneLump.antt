@@ -11,7 +11,7 @@ use Rattle.model.specs.Stream.{HostCall, Streamed, direct, packet_in, stream, st
 use Rattle.model.specs.WellFormed.{call_wide, host_call_wide, plain_ok, waiting_ok, well_formed}
 use Rattle.model.specs.Layout.{decode, encode, line_cleared, waiting_part}
 use Rattle.model.specs.Meanings.{bad_state, hub_command, hub_stream, laid_out, meaning, state_ok, stream_laid_out, stream_meaning}
-use Rattle.model.specs.Demand3.{hostNext}
+use Rattle.model.specs.Demand3.{host_next}
 use Rattle.model.specs.Cutting.{LeftAside, LumpTold, finishes_packet, not_well, takes_all, too_small}
 use Rattle.model.proofs.Model.Demand3.{encode_ok, state_back, state_well}
 use Rattle.model.proofs.Model.Keeps.{keeps_hub, same_hub, well_fit}
@@ -99,8 +99,8 @@ module _ (h : Hub) (e : well_formed h ≡ true) (room : ℕ) (o : Octets) (w : b
       (bytes_append (taken_before h) (take n o) (represented_octets h.waiting waits_well) (bytes_take n o w))
 
 -- a call or a lump keeps a hub well formed
-pub next_keeps : (h : Hub) (c : HostCall) → well_formed h ≡ true → host_call_wide c ≡ true → well_formed (hostNext call stream_out h c) ≡ true
-unfolding hostNext host_call_wide
+pub next_keeps : (h : Hub) (c : HostCall) → well_formed h ≡ true → host_call_wide c ≡ true → well_formed (host_next call stream_out h c) ≡ true
+unfolding host_next host_call_wide
 next_keeps h (direct c) e w = keeps_hub h c e w
 next_keeps h (stream room o) e w = well_by h e room o w _ (lump_step h e room o w)
 
@@ -146,7 +146,7 @@ lump_told s o room w =
 
 -- A LUMP KEEPS A WELL-FORMED STATE WELL FORMED
 pub lump_keeps : (s o : Octets) (room : ℕ) → state_ok s ≡ true → bytes o ≡ true → state_ok (hub_stream s o room).result.state ≡ true
-unfolding hub_stream stream_meaning stream_laid_out laid_out hostNext host_call_wide
+unfolding hub_stream stream_meaning stream_laid_out laid_out host_next host_call_wide
 lump_keeps s o room e w = rw (e, stream_meaning) (encode_ok _ (next_keeps (decode s) (stream room o) (state_well s e) w))
 
 -- A LUMP ANSWERED 2 OR MORE CHANGES THE WAITING OCTETS ALONE

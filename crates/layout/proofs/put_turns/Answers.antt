@@ -1,0 +1,25 @@
+-- `layout::put_turns` meets its contract. Settings, schedule and data are pieces of the block, each written at its place.
+use mathlib.Core.Path.{◌≡◌, refl, sym, ap, ◌∙◌, subst}
+use mathlib.Core.List.{List, [], ◌∷◌, ◌++◌}
+use mathlib.Core.Logic.{⊎_elim}
+use Prim.Native.Nat.{ℕ, zero, suc, ◌+◌, ◌-◌, ◌*◌, ◌≤◌, ◌<◌}
+use native.Mathlib.Omega.{arith}
+use lib.ListN.{length, take, drop, get_or, set, length-set}
+use Rattle.layout.proofs.Advertising.{turns_laid}
+use borrow.Author.Rules.{rules}
+use Rattle.layout.proofs.put_turns.Goals as goal
+
+-- src/lib.rt:359:1
+pub returns : goal.returns
+returns c =
+    let w = c.write_schedule.ensures in
+    c.clear_slots-2.ensures
+    ∙ rw (
+      c.clear_slots.ensures,
+      w.0,
+      c.write_settings.ensures,
+      c.block_place-b.ensures,
+    ) (turns_laid _ _ c.requires.0 _ _ _
+    c.requires.1 (write-settings-requires
+    c
+    c.lifetimes).1 w.1 w.2)

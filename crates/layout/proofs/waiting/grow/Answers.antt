@@ -1,0 +1,46 @@
+-- `layout::waiting::grow` meets its contract.
+use mathlib.Core.Path.{sym, ◌∙◌}
+use Prim.Native.Nat.{◌+◌}
+use native.Mathlib.Omega.{arith}
+use lib.ListN.{length}
+use borrow.Author.Rules.{rules}
+use Rattle.model.specs.Lengths as Lengths
+use Rattle.model.specs.Octets.{le32}
+use Rattle.octets.proofs.Parts.{length_write_at, part_first}
+use Rattle.layout.proofs.WaitingOctets.{lump_room, lump_written}
+use Rattle.layout.proofs.waiting.grow.Goals as goal
+
+pub overflow_add-before : goal.overflow_add-before
+overflow_add-before c =
+    let r = lump_room _ _ _ _ _ _ c.requires.2
+    (omega (arith, c.taken-n.ensures.0, c.requires.3))
+    (c.kept_count-before.ensures _ (sym c.requires.2))
+    (c.kept_count-after.ensures _ (sym c.requires.2)) in
+    omega (arith, r.0, r.2)
+
+pub overflow_sub-after : goal.overflow_sub-after
+overflow_sub-after c =
+    let r = lump_room _ _ _ _ _ _ c.requires.2
+    (omega (arith, c.taken-n.ensures.0, c.requires.3))
+    (c.kept_count-before.ensures _ (sym c.requires.2))
+    (c.kept_count-after.ensures _ (sym c.requires.2)) in
+    omega (arith, r.0)
+
+pub copy_part-requires : goal.copy_part-requires
+copy_part-requires c =
+    let r = lump_room _ _ _ _ _ _ c.requires.2
+    (omega (arith, c.taken-n.ensures.0, c.requires.3))
+    (c.kept_count-before.ensures _ (sym c.requires.2))
+    (c.kept_count-after.ensures _ (sym c.requires.2)) in
+    let n = length_write_at c.args.s.now Lengths.blocks_end (le32 (c.taken-n.result + length c.args.lump.now)) in
+    (rw c.put32.ensures (omega (arith, r.0, r.1, r.2, n, c.requires.1)), omega (arith, r.0, r.1))
+
+pub returns : goal.returns
+returns c =
+    let p = c.requires in
+    let t = c.taken-n.ensures.0 in
+    c.copy_part.ensures
+    ∙ rw (c.put32.ensures, part_first, t)
+    (lump_written _ _ _ _ _ p.0 p.2 p.3
+    (rw t at (c.kept_count-before.ensures _ (sym p.2)))
+    (rw t at (c.kept_count-after.ensures _ (sym p.2))))
