@@ -20,6 +20,4 @@ returns c =
       c.write_settings.ensures,
       c.block_place-b.ensures,
     ) (turns_laid _ _ c.requires.0 _ _ _
-    c.requires.1 (write-settings-requires
-    c
-    c.lifetimes).1 w.1 w.2)
+    c.requires.1 (search rules) w.1 w.2)
