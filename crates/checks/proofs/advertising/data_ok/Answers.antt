@@ -19,7 +19,7 @@ pub returns-then-not-slot_ok : goal.returns-then-not-slot_ok
 returns-then-not-slot_ok c =
     let o = c in
     let a = o in
-    data_fails _ a.well-formed.1.1.0.1.0.1 _ _ _ o.loop-k-test.true (sym o.slot_ok.ensures ∙ not-true _ c.if-not-slot_ok.true-raw)
+    data_fails _ (search rules) _ _ _ o.loop-k-test.true (sym o.slot_ok.ensures ∙ not-true _ c.if-not-slot_ok.true-raw)
     ∙ o.loop-k.invariant.2
 
 pub loop-k-preserved : goal.loop-k-preserved
@@ -28,9 +28,9 @@ loop-k-preserved c =
     let a = o in (
       search rules,
       omega arith,
-      data_turn _ a.well-formed.1.1.0.1.0.1 _ _ _ o.loop-k-test.true (sym o.slot_ok.ensures ∙ not-false _ c.if-not-slot_ok.false-raw)
+      data_turn _ (search rules) _ _ _ o.loop-k-test.true (sym o.slot_ok.ensures ∙ not-false _ c.if-not-slot_ok.false-raw)
           ∙ o.loop-k.invariant.2,
     )
 
 pub returns : goal.returns
-returns c = data_end _ c.well-formed.1.1.0.1.0.1 _ _ _ c.loop-k-test.false ∙ c.loop-k.invariant.2
+returns c = data_end _ (search rules) _ _ _ c.loop-k-test.false ∙ c.loop-k.invariant.2

@@ -2,6 +2,7 @@
 use native.Mathlib.Omega.{arith}
 use Rattle.checks.proofs.AdvertisingLaws.{value_none, value_past, value_some}
 use borrow.Author.Rules.{rules}
+use Rattle.std.proofs.Common.{length, ◌≡◌}
 use Rattle.checks.proofs.advertising.value_of.Goals as goal
 
 pub returns-then-k-eq0 : goal.returns-then-k-eq0
@@ -11,4 +12,4 @@ pub returns-then-k-le5 : goal.returns-then-k-le5
 returns-then-k-le5 c = value_some _ _ c.if-k-eq0.false
 
 pub returns : goal.returns
-returns c = value_past c.args.t1 _ (omega (arith, c.well-formed.0.1.0.1))
+returns c = value_past c.args.l _ (let long : length c.args.l ≡ 5 = search rules in omega arith)

@@ -4,4 +4,4 @@ use borrow.Author.Rules.{rules}
 use Rattle.checks.proofs.advertising.zeros.Goals as goal
 
 pub returns : goal.returns
-returns c = zeros_are c.args.t1 c.well-formed.0.1.0.1
+returns c = zeros_are c.args.l (search rules)

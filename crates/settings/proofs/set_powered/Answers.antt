@@ -1,0 +1,20 @@
+-- `settings::set_powered` meets its contract.
+use Prim.Native.Nat.{◌-◌}
+use Rattle.settings.proofs.Turns.{powered_acts}
+use Rattle.settings.proofs.Bridge.{concluded, ends_length, powered_size}
+use borrow.Author.Rules.{rules}
+use Rattle.settings.proofs.set_powered.Goals as goal
+
+pub returns-then-ps-ne1 : goal.returns-then-ps-ne1
+returns-then-ps-ne1 c =
+    ends_length _ _ _ _ _ _ _ _ (search rules) (search rules) _ powered_size c.if-ps-ne1.true
+    c.refuse.ensures.0 c.refuse.ensures.1
+
+pub returns : goal.returns
+returns c =
+    concluded _ _ _ _ _ _ _ _ _ _ _ _ _ c.requires.0
+    powered_acts powered_size
+    c.if-ps-ne1.false
+    c.settings_at-old.ensures
+    c.decide_powered-d.ensures
+    c.effect_powered-new.ensures c.carry_out.ensures
