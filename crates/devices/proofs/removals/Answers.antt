@@ -30,7 +30,7 @@ pub loop-slot-preserved : goal.loop-slot-preserved
 loop-slot-preserved c = (
   search rules,
   (c.next_used-slot-in-loop-slot.ensures.0 8).used,
-  walk_turn _ _ _ _ _ _ _ _ _ _ _ _ c.removal-end.auto.1.1.1.1.1.0
+  walk_turn _ _ _ _ _ _ _ _ _ _ _ _ c.removal-end.auto.reply
       (search rules) (c.loop-slot.invariant.1 c.loop-slot-test.true)
       (c.next_used-slot-in-loop-slot.ensures.0 8) c.removal-end.ensures.0 c.removal-end.ensures.1
       c.removal-end.ensures.2 c.loop-slot.invariant.2,

@@ -48,7 +48,7 @@ or_octets-new-requires c =
     c.args.state.now
     c.args.index
     (search rules) 0 (lit< tt) _ 17 c.table_place-at.ensures size0 in
-    let k = c.release_named.auto.0 in (omega arith, search rules)
+    let k = c.release_named.auto.state in (omega arith, search rules)
 
 pub returns-then-names_record : goal.returns-then-names_record
 returns-then-names_record c =

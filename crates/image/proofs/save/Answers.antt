@@ -1,0 +1,65 @@
+-- `image::save` meets its contract. The invariant: the images of the controllers from the index come to on are still to be written.
+use mathlib.Core.Path.{refl, sym, ◌∙◌}
+use mathlib.Core.Logic.{⊎_elim}
+use Prim.Native.Nat.{◌-◌, ◌≤◌}
+use native.Mathlib.Omega.{arith}
+use Rattle.layout.proofs.Reading.{ready}
+use Rattle.image.proofs.SaveLaws.{SavingAll, all_first, all_present, all_absent, all_written}
+use Rattle.model.proofs.Model.Demand3.{state_long}
+use borrow.Author.Rules.{rules}
+use Rattle.image.proofs.save.Goals as goal
+
+pub loop-index-init : goal.loop-index-init
+loop-index-init c = (search rules, all_first _ _)
+
+pub present-requires : goal.present-requires
+present-requires c = state_long _ c.requires.0
+
+pub save_controller-place-requires : goal.save_controller-place-requires
+save_controller-place-requires c =
+    let a = sym c.present.ensures ∙ c.if-present.true in let v = c.loop-index.invariant.1 in
+    let e = v.room in let f = v.long in (ready _ _ c.requires.0 a, omega arith)
+
+pub overflow_add-count : goal.overflow_add-count
+overflow_add-count c = let v = c.loop-index.invariant.1.few in omega arith
+
+pub loop-index-smaller : goal.loop-index-smaller
+loop-index-smaller c = omega arith
+
+pub loop-index-preserved : goal.loop-index-preserved
+loop-index-preserved c = (
+  search rules,
+  ⊎_elim (λ y. rw (y.5, y.6, y.7)
+      (all_present _ _ _ _ _ _ c.loop-index-test.true c.loop-index.invariant.1 _ _
+      (sym c.present.ensures ∙ y.0.taken) y.2.ensures.0 y.2.ensures.1 y.2.ensures.2))
+      (λ y. rw (y.1, y.2, y.3) (all_absent _ _ _ _ _ _ c.loop-index-test.true c.loop-index.invariant.1
+      (sym c.present.ensures ∙ y.0.left))) c.if-present.branch,
+)
+
+pub put_be32-requires : goal.put_be32-requires
+put_be32-requires c = let f = c.loop-index.invariant.1.long in omega arith
+
+pub put8-requires : goal.put8-requires
+put8-requires c =
+    let f = c.loop-index.invariant.1.long in let k = c.put_be32.auto.0 in omega arith
+
+pub put8-requires-2 : goal.put8-requires-2
+put8-requires-2 c =
+    let f = c.loop-index.invariant.1.long in
+    let k = c.put_be32.auto.0 in let l = c.put8.auto.0 in omega arith
+
+pub shape_of-out : goal.shape_of-out
+shape_of-out c =
+    c.put8-2.auto.0 ∙ c.put8.auto.0
+    ∙ c.put_be32.auto.0
+    ∙ c.loop-index.invariant.1.long
+
+pub returns : goal.returns
+returns c =
+    all_written _ _ _ _ _ _ _ _ _ _
+    c.requires.0
+    c.requires.1
+    c.loop-index-test.false
+    c.loop-index.invariant.1
+    c.put_be32.ensures
+    c.put8.ensures c.put8-2.ensures refl
