@@ -392,7 +392,8 @@ module _ (u : TableRule) (f : Hardware) (image : Octets) (place : ℕ) where
       unfolding walk_table
       table_reads r h =
           let m : place + 1 ≡ suc place = omega arith in
-          comes_by image _ _ r (rw (drop-cons image place 0 l, le-leb (get_or image place 0) 32 a, walk_table, m)) h
+          comes_by image (walk_table u f (goes_on (drop place image))) (walk_records u f (get_or image place 0) [] (drop (place + 1) image)) r
+          (rw (drop-cons image place 0 l, le-leb (get_or image place 0) 32 a, walk_table, m)) h
 
       -- they are right
       pub table_right : records_right u f image (place + 1) (get_or image place 0) ≡ true → (z : ℕ) → z ≡ u.size

@@ -91,7 +91,7 @@ bounds-ps-0-2 c = let l = (size_true _
 
 -- src/lib.rt:112:5
 pub advertising_added-requires : goal.advertising_added-requires
-advertising_added-requires c = let k = c.command_complete_part.auto.0 in omega (
+advertising_added-requires c = let k = c.command_complete_part.auto.reply in omega (
   arith,
   c.requires.1,
 )

@@ -36,7 +36,7 @@ command_complete-requires c = let l = c.if-ps-ne1.false in omega (
 
 -- src/lib.rt:151:13
 pub advertising_removed-end-requires : goal.advertising_removed-end-requires
-advertising_removed-end-requires c = let k = c.command_complete.auto.0 in omega (
+advertising_removed-end-requires c = let k = c.command_complete.auto.reply in omega (
   arith,
   c.requires.1,
 )

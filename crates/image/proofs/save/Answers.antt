@@ -1,6 +1,6 @@
 -- `image::save` meets its contract. The invariant: the images of the controllers from the index come to on are still to be written.
 use mathlib.Core.Path.{refl, sym, ◌∙◌}
-use mathlib.Core.Logic.{⊎_elim}
+
 use Prim.Native.Nat.{◌-◌, ◌≤◌}
 use native.Mathlib.Omega.{arith}
 use Rattle.layout.proofs.Reading.{ready}
@@ -8,6 +8,7 @@ use Rattle.image.proofs.SaveLaws.{SavingAll, all_first, all_present, all_absent,
 use Rattle.model.proofs.Model.Demand3.{state_long}
 use borrow.Author.Rules.{rules}
 use Rattle.image.proofs.save.Goals as goal
+use Rattle.image.proofs.save.Goals.{then-present, else-present}
 
 pub loop-index-init : goal.loop-index-init
 loop-index-init c = (search rules, all_first _ _)
@@ -29,11 +30,13 @@ loop-index-smaller c = omega arith
 pub loop-index-preserved : goal.loop-index-preserved
 loop-index-preserved c = (
   search rules,
-  ⊎_elim (λ y. rw (y.5, y.6, y.7)
-      (all_present _ _ _ _ _ _ c.loop-index-test.true c.loop-index.invariant.1 _ _
-      (sym c.present.ensures ∙ y.0.taken) y.2.ensures.0 y.2.ensures.1 y.2.ensures.2))
-      (λ y. rw (y.1, y.2, y.3) (all_absent _ _ _ _ _ _ c.loop-index-test.true c.loop-index.invariant.1
-      (sym c.present.ensures ∙ y.0.left))) c.if-present.branch,
+  elim c.if-present.branch [
+    then-present w ↦ rw (w.out-is, w.place-is, w.count-is)
+        (all_present _ _ _ _ _ _ c.loop-index-test.true c.loop-index.invariant.1 _ _
+        (sym c.present.ensures ∙ w.if-present.true) w.save_controller.ensures.0 w.save_controller.ensures.1 w.save_controller.ensures.2)
+  | else-present w ↦ rw (w.out-is, w.place-is, w.count-is)
+        (all_absent _ _ _ _ _ _ c.loop-index-test.true c.loop-index.invariant.1 (sym c.present.ensures ∙ w.if-present.false))
+  ],
 )
 
 pub put_be32-requires : goal.put_be32-requires
@@ -41,17 +44,17 @@ put_be32-requires c = let f = c.loop-index.invariant.1.long in omega arith
 
 pub put8-requires : goal.put8-requires
 put8-requires c =
-    let f = c.loop-index.invariant.1.long in let k = c.put_be32.auto.0 in omega arith
+    let f = c.loop-index.invariant.1.long in let k = c.put_be32.auto.s in omega arith
 
 pub put8-requires-2 : goal.put8-requires-2
 put8-requires-2 c =
     let f = c.loop-index.invariant.1.long in
-    let k = c.put_be32.auto.0 in let l = c.put8.auto.0 in omega arith
+    let k = c.put_be32.auto.s in let l = c.put8.auto.s in omega arith
 
 pub shape_of-out : goal.shape_of-out
 shape_of-out c =
-    c.put8-2.auto.0 ∙ c.put8.auto.0
-    ∙ c.put_be32.auto.0
+    c.put8-2.auto.s ∙ c.put8.auto.s
+    ∙ c.put_be32.auto.s
     ∙ c.loop-index.invariant.1.long
 
 pub returns : goal.returns

@@ -8,9 +8,9 @@ pub save_tables-requires : goal.save_tables-requires
 save_tables-requires c =
     let r = c.requires.0 in
     let b = (names_by _ _ r).1 in let n = c.save_name-short.ensures.0 in
-    let m = c.save_name-tables.ensures.0 in let i = c.save_fixed.auto.1.1.0 in
-    let j = c.save_name-short.auto.1.1.1.0 in
-    let k = c.save_name-tables.auto.1.1.1.0 in (r, omega arith)
+    let m = c.save_name-tables.ensures.0 in let i = c.save_fixed.auto.out in
+    let j = c.save_name-short.auto.out in
+    let k = c.save_name-tables.auto.out in (r, omega arith)
 
 pub returns : goal.returns
 returns c =

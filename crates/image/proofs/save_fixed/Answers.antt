@@ -9,12 +9,11 @@ use Rattle.image.proofs.save_fixed.Goals as goal
 
 pub copy_into-requires : goal.copy_into-requires
 copy_into-requires c =
-    let o : 6 ≡ length c.args.m.radio.static_address = slice-aggregate-copy-into
-    c in omega arith
+    let o : 6 ≡ length c.args.m.radio.static_address = (search rules) in omega arith
 
 pub copy_into-requires-2 : goal.copy_into-requires-2
 copy_into-requires-2 c =
-    let k = c.copy_into.auto.0 in
+    let k = c.copy_into.auto.s in
     let o : 6 ≡ length
     c.args.m.radio.hardware.public_address = (search rules) in omega arith
 

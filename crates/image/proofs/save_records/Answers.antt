@@ -78,7 +78,7 @@ loop-slot-preserved c = (
 )
 
 pub shape_of-out : goal.shape_of-out
-shape_of-out c = c.loop-slot.invariant.3.long ∙ c.put8.auto.0
+shape_of-out c = c.loop-slot.invariant.3.long ∙ c.put8.auto.s
 
 pub returns : goal.returns
 returns c =

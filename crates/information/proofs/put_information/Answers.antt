@@ -37,8 +37,7 @@ returns c =
     c.current_settings-current.ensures
     c.table_place-uuids.ensures
     c.or_octets-hints.ensures
-    c.information_head-head.ensures refl (slice-aggregate-copy-into
-    c)
+    c.information_head-head.ensures refl ((search rules))
     c.name_place-name.ensures
     c.copy_into.ensures
     c.copy_into-2.ensures c.copy_part.ensures

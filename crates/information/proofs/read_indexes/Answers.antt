@@ -13,8 +13,8 @@ list_indexes-n-requires c = (state_long _ c.requires.0, refl)
 
 pub slice_bounds-general_reply-end : goal.slice_bounds-general_reply-end
 slice_bounds-general_reply-end c =
-    front_long c.list_indexes-n.new.1.0 c.list_indexes-n.result 10
-    c.list_indexes-n.auto.1.0 c.list_indexes-n.ensures.1
+    front_long c.list_indexes-n.new.out c.list_indexes-n.result 10
+    c.list_indexes-n.auto.out c.list_indexes-n.ensures.1
 
 pub general_reply-requires : goal.general_reply-requires
 general_reply-requires c =

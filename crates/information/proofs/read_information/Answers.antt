@@ -13,5 +13,5 @@ returns-then-ps-ne0 c =
 pub returns : goal.returns
 returns c =
     information_done _ _ _ _ _ _ (search rules) (search rules) c.if-ps-ne0.false _
-    (sym c.put_information.auto.1.1.0)
+    (sym c.put_information.auto.out)
     c.put_information.ensures refl c.command_complete.ensures
