@@ -89,13 +89,6 @@ bounds-ps-0-2 c = let l = (size_true _
     (sym c.sized.ensures
     ∙ not-false _ c.if-not-sized.false-raw)).0 in omega arith
 
--- src/lib.rt:112:5
-pub advertising_added-requires : goal.advertising_added-requires
-advertising_added-requires c = let k = c.command_complete_part.auto.reply in omega (
-  arith,
-  c.requires.1,
-)
-
 -- src/lib.rt:90:1
 pub returns : goal.returns
 returns c =

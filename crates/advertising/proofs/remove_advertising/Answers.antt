@@ -34,13 +34,6 @@ command_complete-requires c = let l = c.if-ps-ne1.false in omega (
   c.requires.1,
 )
 
--- src/lib.rt:151:13
-pub advertising_removed-end-requires : goal.advertising_removed-end-requires
-advertising_removed-end-requires c = let k = c.command_complete.auto.reply in omega (
-  arith,
-  c.requires.1,
-)
-
 -- src/lib.rt:152:9
 pub returns-then-removable : goal.returns-then-removable
 returns-then-removable c =

@@ -33,7 +33,7 @@ loop-index-preserved c = (
   elim c.if-present.branch [
     then-present w ↦ rw (w.out-is, w.place-is, w.count-is)
         (all_present _ _ _ _ _ _ c.loop-index-test.true c.loop-index.invariant.1 _ _
-        (sym c.present.ensures ∙ w.if-present.true) w.save_controller.ensures.0 w.save_controller.ensures.1 w.save_controller.ensures.2)
+        (sym c.present.ensures ∙ w.if-present.true) w.save_controller-place.ensures.0 w.save_controller-place.ensures.1 w.save_controller-place.ensures.2)
   | else-present w ↦ rw (w.out-is, w.place-is, w.count-is)
         (all_absent _ _ _ _ _ _ c.loop-index-test.true c.loop-index.invariant.1 (sym c.present.ensures ∙ w.if-present.false))
   ],

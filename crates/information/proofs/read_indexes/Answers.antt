@@ -18,7 +18,8 @@ slice_bounds-general_reply-end c =
 
 pub general_reply-requires : goal.general_reply-requires
 general_reply-requires c =
-    let e = slice_bounds-general_reply-end c in let k = c.list_indexes-n.ensures.1 in (search rules, omega arith)
+    let e = front_long c.list_indexes-n.new.out c.list_indexes-n.result 10 c.list_indexes-n.auto.out c.list_indexes-n.ensures.1 in
+    let k = c.list_indexes-n.ensures.1 in (search rules, omega arith)
 
 pub returns : goal.returns
 returns c =
