@@ -74,7 +74,7 @@ unfolding condition spelled
 returns-in-AddressZeroNotBredr c = rw c.in-AddressZeroNotBredr.is c.put-in-AddressZeroNotBredr.ensures
 
 pub put_middle_condition-requires : goal.put_middle_condition-requires
-put_middle_condition-requires c = (search rules, past_first _ c.in_default-own.keys18)
+put_middle_condition-requires c = (search rules, past_first _ c.in_default.not-CodeUnknown c.in_default.not-IndexNotNone c.in_default.not-ControllerAbsent c.in_default.not-LengthWrong c.in_default.not-CountAbove32 c.in_default.not-DebugFlagAbove1 c.in_default.not-KeyTypeAbove8 c.in_default.not-KeyTypeAbove4 c.in_default.not-MasterAbove1 c.in_default.not-KeySizeNot7To16 c.in_default.not-RecordRepeated c.in_default.not-AddressTypeNotBredr c.in_default.not-AddressTypeNotLe c.in_default.not-AddressTypeAbove2 c.in_default.not-AddressZero c.in_default.not-AddressNotStaticRandom c.in_default.not-AddressZeroNotBredr)
 
 pub returns-in_default : goal.returns-in_default
 returns-in_default c = c.put_middle_condition.ensures

@@ -66,4 +66,4 @@ unfolding condition spelled
 returns-in-InstanceAbsent c = rw c.in-InstanceAbsent.is c.put-in-InstanceAbsent.ensures
 
 pub returns-in_default : goal.returns-in_default
-returns-in_default c = past_last _ c.requires.1 c.in_default-own.keys16
+returns-in_default c = past_last _ c.requires.1 c.in_default.not-NotConnectable c.in_default.not-BredrOff c.in_default.not-LowEnergyNeeded c.in_default.not-PoweredForBredrOff c.in_default.not-StaticAddressForBredr c.in_default.not-PoweredForStaticAddress c.in_default.not-LowEnergyOff c.in_default.not-AdvertisingTimeoutUnpowered c.in_default.not-NoFreeSlot c.in_default.not-UuidAbsent c.in_default.not-NoKeyOfDevice c.in_default.not-AlreadyBlocked c.in_default.not-NotBlocked c.in_default.not-DeviceAbsent c.in_default.not-InstanceAbsent

@@ -82,7 +82,7 @@ unfolding condition spelled
 returns-in-NoAddressForPower c = rw c.in-NoAddressForPower.is c.put-in-NoAddressForPower.ensures
 
 pub put_last_condition-requires : goal.put_last_condition-requires
-put_last_condition-requires c = (search rules, past_middle _ c.requires.1 c.in_default-own.keys20)
+put_last_condition-requires c = (search rules, past_middle _ c.requires.1 c.in_default.not-ValueAbove1 c.in_default.not-ValueAbove2 c.in_default.not-TimeoutWithValue0 c.in_default.not-NoTimeoutWithValue2 c.in_default.not-NameNotEnded c.in_default.not-ShortNameNotEnded c.in_default.not-UuidZero c.in_default.not-DisconnectAbove1 c.in_default.not-ActionAbove2 c.in_default.not-ActionNot1ForBredr c.in_default.not-InstanceNot1To5 c.in_default.not-AdvertisingFlags c.in_default.not-AdvDataAbove31 c.in_default.not-ScanRspAbove31 c.in_default.not-BredrNotSupported c.in_default.not-LeNotSupported c.in_default.not-DiscoverableTimeoutUnpowered c.in_default.not-Unpowered c.in_default.not-NoAddressForPower)
 
 pub returns-in_default : goal.returns-in_default
 returns-in_default c = c.put_last_condition.ensures
