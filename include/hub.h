@@ -3,8 +3,8 @@
  *
  * The caller lends every buffer: the state, the packet or image, the reply, text or room for an image. Each call returns one number that holds the answer
  * and the count of octets written to the last of these, of hub_why a status too, of hub_look_up a slot and the slots walked, of hub_stream the octets
- * taken, of hub_salvage the octets of its list, and where an image is refused the offset of its fault; take it apart with hub_answer, hub_count, hub_extra,
- * hub_slot, hub_walked, hub_taken, hub_listed and hub_offset. The buffers behind the octets written are left alone.
+ * taken, and where an image is refused the offset of its fault; take it apart with hub_answer, hub_count, hub_extra, hub_slot, hub_walked, hub_taken and
+ * hub_offset. The buffer behind the octets written is left alone.
  *
  * What the caller owes:
  *   - each length is the true length of its buffer;
@@ -37,7 +37,7 @@
  * identity resolving keys an LE Random address has to be one. Any other is refused with Invalid Parameters there. The address of a device that is blocked,
  * added or unpaired need not be one. A host that draws a static address at random tests it first, or draws again when it is refused. An image with any
  * other address in these places is refused, with HUB_IMAGE_FIELD or HUB_IMAGE_RECORD and where it stands, and a state with HUB_BAD_STATE, as those of an
- * older library may be. Of such an image hub_salvage keeps what else is in it.
+ * older library may be. Nothing in them is mended: keep the file, and start from the empty image.
  *
  * Set BR/EDR (0x002A) turns the BR/EDR of a controller that has both transports off and on; plug turns it on, and an image keeps it. Off is taken while
  * power is off, and turns discoverable off; on is taken with no static address; both want Low Energy on. With BR/EDR off or not supported, discoverable is
@@ -58,14 +58,6 @@
  * name of version 2 is one field with its length octet. Of two fields that do not fit together the later one is at fault, and so is the later of two records
  * that name one thing; a record that breaks a rule of its own is not told as repeated. What is told is the first fault and not all there is: more may be
  * wrong behind it. docs/IMAGE.md has the layout of an image and an example of each number.
- *
- * hub_salvage makes an image that loads of one that does not. It goes through the octets by the counts and name lengths as they are written and keeps, in
- * their order, the controllers and records that keep the rules and name nothing twice. What it drops it lists by offset: a record; a controller whose fixed
- * part, from its index to its short name, breaks a rule, or whose index is not above that of the last one kept, with all its records as one item; and
- * everything from the first octet on at which it can go no further. That is a fixed part, a count or a record that is not whole, a table of more than 32
- * records, or the first octet left over. A length field that says another length is an item too, at offset 0. So an empty list says that hub_load would have
- * taken the octets as they are. It is as good as the counts: after one that is spoilt other octets are taken for records, and such a record that keeps the
- * rules is kept, a key that no one paired among them. Compare what was kept with the list before it is put to use.
  *
  * Octets off a serial line go to hub_stream as they come, in lumps of any length; it finds the packets. What has come of the next packet waits in the
  * state, and no other call touches it or looks at it: hub_command, the radio, the clock and hub_save go on beside it. No image holds it, and after hub_load
@@ -101,10 +93,8 @@ extern "C" {
 #define HUB_STATE_LEN 18656u
 /* The shortest reply buffer that every call but hub_save takes. */
 #define HUB_REPLY_MIN 1024u
-/* The shortest buffer for an image that hub_save, hub_upgrade, hub_downgrade and hub_salvage take; the longest image has that length, in both versions. */
+/* The shortest buffer for an image that hub_save, hub_upgrade and hub_downgrade take, and the length of the longest image, in both versions. */
 #define HUB_IMAGE_MAX 16014u
-/* How much longer than the octets it is to go through the list of hub_salvage has to be. */
-#define HUB_LIST_MORE 16u
 /* The shortest text buffer that hub_why takes; no text is longer. */
 #define HUB_TEXT_MIN 256u
 
@@ -113,16 +103,15 @@ extern "C" {
 #define HUB_STARTED 1u      /* started: the radio owes a report; the command is kept, nothing is written */
 #define HUB_REFUSED 2u      /* refused: one reply, which tells the status; state as it was, here and below (hub_stream: but for what waits) */
 #define HUB_BAD_PACKET 3u   /* the packet has no whole header, or another length than its header says */
-#define HUB_SMALL_BUFFER 4u /* the reply buffer is shorter than HUB_REPLY_MIN (an image's: HUB_IMAGE_MAX; the text's of hub_why: HUB_TEXT_MIN;
-                             * the list's of hub_salvage: the octets' length + HUB_LIST_MORE) */
+#define HUB_SMALL_BUFFER 4u /* the reply buffer is shorter than HUB_REPLY_MIN (an image's: HUB_IMAGE_MAX; the text's of hub_why: HUB_TEXT_MIN) */
 #define HUB_BAD_STATE 5u    /* the lent state is not well formed */
 #define HUB_BAD_ARGUMENT 6u /* a wrong argument, of hub_plug, hub_unplug, hub_report, hub_clock, hub_name, hub_on_air or hub_look_up */
 #define HUB_NOT_IN_IMAGE 8u /* hub_downgrade: a controller that supports BR/EDR has it off, which version 1 cannot say */
 #define HUB_INCOMPLETE 9u   /* hub_stream: no packet is finished yet; all octets were taken, and only what waits has changed; nothing is written */
 
-/* What is wrong with an image, of hub_load, hub_upgrade and hub_downgrade, 72 of hub_salvage too; hub_offset says where that begins. */
+/* What is wrong with an image, of hub_load, hub_upgrade and hub_downgrade; hub_offset says where that begins. */
 #define HUB_IMAGE_LENGTH 71u   /* its length field says another length (offset 0), it ends before a field or record is whole, or octets are left over */
-#define HUB_IMAGE_VERSION 72u  /* a version that is not taken: hub_load and hub_salvage take 1 and 2, hub_upgrade 1, hub_downgrade 2 */
+#define HUB_IMAGE_VERSION 72u  /* a version that is not taken: hub_load takes 1 and 2, hub_upgrade 1, hub_downgrade 2 */
 #define HUB_IMAGE_INDEX 73u    /* more than four controllers, an index above 3, or indexes that do not ascend */
 #define HUB_IMAGE_FIELD 74u    /* another field of a controller: its supported settings, flags, static address, name or short name */
 #define HUB_IMAGE_COUNT 75u    /* a table of more than 32 records */
@@ -145,7 +134,7 @@ static inline unsigned hub_answer(uint64_t result)
     return (unsigned)(result & 0xFFu);
 }
 
-/* The count of octets written to the reply buffer, to the text buffer of hub_why, or to the out buffer of hub_upgrade, hub_downgrade and hub_salvage. */
+/* The count of octets written to the reply buffer, to the text buffer of hub_why, or to the out buffer of hub_upgrade and hub_downgrade. */
 static inline size_t hub_count(uint64_t result)
 {
     return (size_t)((result >> 8) & 0xFFFFFFu);
@@ -153,8 +142,7 @@ static inline size_t hub_count(uint64_t result)
 
 /*
  * A second number: of hub_why the status that hub_command would answer with, 0 if the packet would be taken; of hub_look_up the slot + 256 x the slots
- * walked; of hub_stream the octets taken; of hub_salvage, with answer 0, the octets of the list; of hub_load, hub_upgrade, hub_downgrade and hub_salvage,
- * with 71 to 77, the offset of the fault. Else it is 0.
+ * walked; of hub_stream the octets taken; of hub_load, hub_upgrade and hub_downgrade, with 71 to 77, the offset of the fault. Else it is 0.
  */
 static inline uint32_t hub_extra(uint64_t result)
 {
@@ -177,18 +165,6 @@ static inline unsigned hub_walked(uint64_t result)
 static inline size_t hub_taken(uint64_t result)
 {
     return (size_t)hub_extra(result);
-}
-
-/* How many octets hub_salvage wrote to its list, with answer 0: four for each item. */
-static inline size_t hub_listed(uint64_t result)
-{
-    return (size_t)hub_extra(result);
-}
-
-/* An item of the list of hub_salvage, counted from 0: the offset of what was dropped. The caller sees to it that there is such an item. */
-static inline size_t hub_item(const uint8_t *list, size_t i)
-{
-    return (size_t)list[4 * i] << 24 | (size_t)list[4 * i + 1] << 16 | (size_t)list[4 * i + 2] << 8 | (size_t)list[4 * i + 3];
 }
 
 /* Whether an image was refused for what it is: one of the answers 71 to 77. */
@@ -214,8 +190,8 @@ struct hub_frame {
 /*
  * Tells the packets of a reply apart: the one that begins at *position, which is moved behind it. Start at 0 and go on while it returns 1; it returns
  * 0 at the end and where the octets up to count are no whole packet, with *position as it was, so that *position == count says that all was read.
- * No octet past the count is looked at. (What hub_save, hub_upgrade, hub_downgrade, hub_salvage, hub_name, hub_on_air and hub_why write is an image,
- * a list, a name, an instance and a text, not packets.)
+ * No octet past the count is looked at. (What hub_save, hub_upgrade, hub_downgrade, hub_name, hub_on_air and hub_why write is an image, a name, an
+ * instance and a text, not packets.)
  */
 static inline int hub_next_frame(const uint8_t *reply, size_t count, size_t *position, struct hub_frame *frame)
 {
@@ -244,9 +220,9 @@ uint64_t hub_command(uint8_t *state, size_t state_len, const uint8_t *packet, si
  * Octets off the serial line, as many as there are, also none. Takes them up to the end of the packet that is coming in, and no further: with answers
  * 0, 1 and 2 that packet is finished, nothing waits, and answer, reply and state are those of hub_command with the whole packet. With answer 9 it is not: all
  * octets were taken, and nothing is written. hub_taken says how many were taken; lend the rest again, from there on, until all are. With answers 4 and 5 none
- * was taken. After 4 lend the same again, with a longer reply buffer; any that is too short is answered 4, also where no packet would be finished. After 5
- * load first: what waited is lost with the state, so that the next octets lent have to begin a packet. A packet of more than 1,160 octets, which hub_command
- * never takes, is not kept, and is refused at its last octet as hub_command refuses it. Answers 0, 1, 2, 4, 5 or 9, never 3.
+ * was taken. After 4 lend the same again, with a longer reply buffer; any that is too short is answered 4, also where no packet would be finished. After 5 load first:
+ * what waited is lost with the state, so that the next octets lent have to begin a packet. A packet of more than 1,160
+ * octets, which hub_command never takes, is not kept, and is refused at its last octet as hub_command refuses it. Answers 0, 1, 2, 4, 5 or 9, never 3.
  */
 uint64_t hub_stream(uint8_t *state, size_t state_len, const uint8_t *octets, size_t octets_len, uint8_t *reply, size_t reply_len);
 
@@ -303,15 +279,6 @@ uint64_t hub_upgrade(const uint8_t *image, size_t image_len, uint8_t *out, size_
  * off at a controller that supports it.
  */
 uint64_t hub_downgrade(const uint8_t *image, size_t image_len, uint8_t *out, size_t out_len);
-
-/*
- * Makes an image that hub_load takes of any octets, in the out buffer, in the version that their fifth octet says; what is dropped is listed in the list
- * buffer, each item by its offset in four octets, high octet first, in ascending order. hub_count gives the octets of the image, hub_listed those of the
- * list; the list is empty exactly if hub_load takes the octets as they are, and then the image is these octets. The time it takes grows with the length of
- * the octets. Answers 0, 4 for an out buffer under HUB_IMAGE_MAX or a list shorter than the octets' length + HUB_LIST_MORE, or 72 where there is no fifth
- * octet or it is neither 1 nor 2, with the lesser of 4 and the length as the offset.
- */
-uint64_t hub_salvage(const uint8_t *octets, size_t octets_len, uint8_t *out, size_t out_len, uint8_t *list, size_t list_len);
 
 /*
  * Reads the name (0) or the short name (1) of the controller at an index: writes its octets up to the first zero, without it, at most 248 of them, none

@@ -43,6 +43,6 @@ skip() {
 library() {
     [ -n "${HUB_BUILT:-}" ] || {
         need rt
-        rt staticlib hub > /dev/null
+        "$(dirname "${BASH_SOURCE[0]}")/../../tools/library"
     }
 }
