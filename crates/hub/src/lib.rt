@@ -1,6 +1,7 @@
 // The hub: the order of a call, and the fourteen functions that C calls: 01's seven, one that takes octets off a serial line, four that only read: one
 // tells a name, one what is on air, one why a packet would be refused, and one where a record stands; and two that move an image from one version to the
 // other.
+#![tactic(auto)]
 ghost use Rattle.std.specs.Prelude.{◌≡◌, ◌+◌, ◌*◌, ◌^◌, ◌≤◌, ◌<◌, ◌++◌, length, true};
 ghost use Rattle.model.specs.Lengths as Lengths;
 ghost use Rattle.model.specs.Hub as Hub;
