@@ -1,0 +1,14 @@
+-- `hub::hub_report` meets its contract.
+use mathlib.Core.Path.{refl}
+use Prim.Native.Nat.{◌-◌}
+use borrow.Author.Rules.{rules}
+use Rattle.model.specs.Meanings.{hub_report}
+use Rattle.hub.proofs.Entries.{count_call, returns_packed}
+use Rattle.hub.proofs.hub_report.Goals as goal
+
+pub pack-requires : goal.pack-requires
+pack-requires c = count_call _ _ _ _ _ _ c.report-a.ensures
+
+pub returns : goal.returns
+unfolding hub_report
+returns c = returns_packed _ _ _ _ _ _ c.report-a.ensures c.pack.ensures

@@ -1,0 +1,28 @@
+-- `hub::report` meets its contract.
+use mathlib.Core.Path.{refl, sym, ◌∙◌}
+use Prim.Native.Nat.{◌-◌}
+use borrow.Author.Rules.{rules}
+use Rattle.model.proofs.Model.Demand3.{state_long}
+use Rattle.hub.proofs.Entries.{gives_bad}
+use Rattle.hub.proofs.Bridge.{report_done, report_no_room}
+use Rattle.hub.proofs.report.Goals as goal
+
+pub report-requires : goal.report-requires
+report-requires c = (
+  (sym c.well_formed-2.ensures ∙ c.if-well_formed.true),
+  state_long _
+      (sym c.well_formed-2.ensures ∙ c.if-well_formed.true),
+  search rules,
+)
+
+pub returns-then-reply-ge-REPLY_BUFFER : goal.returns-then-reply-ge-REPLY_BUFFER
+returns-then-reply-ge-REPLY_BUFFER c =
+    report_done _ _ _ _ _ _ _ _ (sym c.well_formed-2.ensures
+    ∙ c.if-well_formed.true)
+    c.if-reply-ge-REPLY_BUFFER.true c.report.ensures
+
+pub returns-then-well_formed : goal.returns-then-well_formed
+returns-then-well_formed c = report_no_room _ _ _ _ _ (sym c.well_formed-2.ensures ∙ c.if-well_formed.true) c.if-reply-ge-REPLY_BUFFER.false
+
+pub returns : goal.returns
+returns c = gives_bad _ _ _ _ (sym c.well_formed-2.ensures ∙ c.if-well_formed.false) refl
