@@ -24,13 +24,13 @@ Rising a b [] = Unit {0}
 Rising a b (n ∷ ns) = (a ≤ n) × (n ≤ b) × Rising (suc n) b ns
 
 -- the offsets of what is dropped, of n octets in all, up to where the walk ends
-rises : (n low : ℕ) {hi : ℕ} {is : List Item} (e : End) → hi ≤ n → low ≤ n - hi → Falls hi is (left_of e)
-    → Rising low (n - left_of e) (map (begins_at n) (is ++ last_item e))
+rises : (n low : ℕ) {hi k : ℕ} {is : List Item} (e : End) → left_of e ≡ k → hi ≤ n → low ≤ n - hi → Falls hi is k
+    → Rising low (n - k) (map (begins_at n) (is ++ last_item e))
 unfolding Rising left_of last_item item_at begins_at
-rises n low (goes_on []) h l (none_here f) = tt
-rises n low (goes_on (x ∷ o)) h l (none_here f) = (omega arith, omega arith, tt)
-rises n low (cut i) h l (none_here f) = (omega arith, omega arith, tt)
-rises n low e h l (one_here a s f) = (omega arith, omega (arith, falls_many f), rises n (suc (n - _)) e (omega arith) (omega arith) f)
+rises n low (goes_on []) q h l (none_here f) = tt
+rises n low (goes_on (x ∷ o)) q h l (none_here f) = (omega arith, omega arith, tt)
+rises n low (cut i) q h l (none_here f) = (omega arith, omega arith, tt)
+rises n low e q h l (one_here a s f) = (omega arith, omega (arith, falls_many f), rises n (suc (n - _)) e q (omega arith) (omega arith) f)
 
 -- THE OFFSETS ASCEND, up to where the walk ends
 offsets_rise : (v : Version) (o : Octets) → 5 ≤ length o → Rising 0 (length o - left_of (walk v (drop 5 o)).end) (offsets v o)
@@ -39,8 +39,8 @@ offsets_rise v o l =
     let w : Walk Slots = walk v (drop 5 o) in
     let d : length (drop 5 o) ≡ length o - 5 = length-drop 5 o in
     either {A = List ℕ} (λ ns. Rising 0 (length o - left_of w.end) (ns ++ map (begins_at (length o)) (w.dropped ++ last_item w.end))) (eqb (number 0 (take 4 o)) (length o))
-    (λ _. rises (length o) 0 w.end (omega arith) (omega arith) (walk_fall v (drop 5 o)))
-    (λ _. (omega arith, omega arith, rises (length o) 1 w.end (omega arith) (omega arith) (walk_fall v (drop 5 o))))
+    (λ _. rises (length o) 0 w.end refl (omega arith) (omega arith) (walk_fall v (drop 5 o)))
+    (λ _. (omega arith, omega arith, rises (length o) 1 w.end refl (omega arith) (omega arith) (walk_fall v (drop 5 o))))
 
 -- the walk ends in the input, and before octet 2^21 of it
 end_near : (v : Version) (o : Octets) → bytes o ≡ true → length o - left_of (walk v (drop 5 o)).end < 2 ^ 21

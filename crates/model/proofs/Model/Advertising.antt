@@ -1,5 +1,5 @@
 -- The advertising stays well formed: the schedule (Proof/Schedule), and beside it the data of the instances that are there.
-use Rattle.std.specs.Prelude.{ℕ, zero, suc, ◌-◌, ◌≡◌, refl, Bool, true, false, ◌&&◌, ◌||◌, not, List, [], ◌∷◌, length, set, eqb, leb}
+use Rattle.std.specs.Prelude.{ℕ, zero, suc, ◌≡◌, refl, Bool, true, false, ◌&&◌, ◌||◌, not, List, [], ◌∷◌, length, set, eqb, leb}
 use Rattle.std.proofs.Common.{arith, sym, ap, ◌∙◌, eqb-true}
 use Rattle.model.specs.Octets.{Octets, bytes}
 use Rattle.model.specs.Advertising.{Advertising, Schedule, added_instance, advertising_removed, removed_of, data_kept, no_advertising, no_schedule}

@@ -1,5 +1,5 @@
 -- Demand 3 over the model's states. The proof opens the frame of a call, and no command's rule: rows may be added to the table with no change here.
-use Rattle.std.specs.Prelude.{ℕ, ◌+◌, Bool, set, eqb, ltb}
+use Rattle.std.specs.Prelude.{ℕ, Bool, set, eqb, ltb}
 use Rattle.std.proofs.Common.{arith, ◌∙◌}
 use Rattle.std.proofs.Math.Path.{◌≡◌, refl, sym, ap}
 use Rattle.std.proofs.Math.Bool.{true, false}
@@ -11,7 +11,6 @@ use Rattle.model.specs.Statuses as Statuses
 use Rattle.model.specs.Events as Events
 use Rattle.model.specs.Octets.{Octets, command_status, event, le16}
 use Rattle.model.specs.State.{Controller, Hub, OpenCommand, PlainHub, controller_at, idle, with_controller}
-use Rattle.model.specs.Rules.{done}
 use Rattle.model.specs.Hub.{Call, Outcome, Result, Verdict, answer_of, anyway, bad_argument, busy_or, call, call_plain, clock, clock_out, code_of}
 use Rattle.model.specs.Hub.{command, command_out}
 use Rattle.model.specs.Hub.{finish, index_of, keep, no_room, octets_of, outcome, owed_to, params_of, plain_call, plug, plug_out, report}

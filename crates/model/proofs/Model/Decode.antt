@@ -1,5 +1,5 @@
 -- Reading the lent state back: `decode` undoes `encode` on every well-formed hub. So one state has one meaning, and answer 5 has a computed test.
-use Rattle.std.specs.Prelude.{ℕ, ◌+◌, ◌-◌, ◌*◌, ◌/◌, ◌%◌, ◌^◌, ◌<◌, ◌≤◌, ◌≡◌, refl, Bool, true, false, ◌&&◌, ◌||◌, not, length, get_or, take, replicate, eqb, leb, ltb}
+use Rattle.std.specs.Prelude.{ℕ, ◌+◌, ◌*◌, ◌/◌, ◌%◌, ◌^◌, ◌<◌, ◌≤◌, ◌≡◌, refl, Bool, true, false, ◌&&◌, ◌||◌, not, length, get_or, take, replicate, eqb, leb, ltb}
 use native.Mathlib.Omega.{arith}
 use Rattle.std.proofs.Math.Nat.{div-div-eq-div-mul}
 use Rattle.std.proofs.Common.{div-add-mod', sym, ap, ◌∙◌, length-append, take-take, length-take-le, lit≤, ltb→lt, leb-true, ltb-true}

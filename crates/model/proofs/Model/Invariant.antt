@@ -1,6 +1,6 @@
 -- The invariant of demand 3: at each index nothing is under way, or a command that would now be started and whose packet is remembered.
 -- What keeps it: a call changes the radio settings of a controller with an open command only when that command is finished, failed or cut off.
-use Rattle.std.specs.Prelude.{ℕ, zero, suc, ◌-◌, ◌^◌, ◌<◌, refl, ◌≢◌, Bool, true, false, ◌&&◌, List, [], ◌∷◌, map, length, get_or, replicate, set, eqb, leb, ltb}
+use Rattle.std.specs.Prelude.{ℕ, zero, suc, ◌^◌, ◌<◌, refl, ◌≢◌, Bool, true, false, ◌&&◌, List, [], ◌∷◌, map, length, get_or, replicate, set, eqb, leb, ltb}
 use Rattle.std.proofs.Common.{arith, sym, ap, ◌∙◌, length-set, get_or-set_same, get_or-set_other, ltb→lt}
 use Rattle.std.proofs.Math.Decide.{ℕ_discrete}
 use Rattle.std.proofs.Math.Path.{◌≡◌}

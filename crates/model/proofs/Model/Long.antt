@@ -17,9 +17,9 @@ use Rattle.model.specs.Immediate.{load_keys, long_term_key_list}
 use Rattle.model.specs.Immediate.{read_information, remove_advertising, remove_device, remove_uuid, set_bondable, set_local_name, sized, unblock_device}
 use Rattle.model.specs.Immediate.{unpair_device}
 use Rattle.model.specs.Commands.{rows, rule}
-use Rattle.model.specs.Hub.{Outcome, Verdict, anyway, bad_packet, by_rule, by_status, call, code_of, command, command_out, finished, general_out}
+use Rattle.model.specs.Hub.{Outcome, anyway, bad_packet, by_rule, by_status, call, code_of, command, command_out, finished, general_out}
 use Rattle.model.specs.Hub.{immediate_at, immediate_done}
-use Rattle.model.specs.Hub.{index_of, no_room, packet_ok, params_of, radio_at, refusal_form, refused, under_way, verdict}
+use Rattle.model.specs.Hub.{index_of, no_room, packet_ok, params_of, radio_at, refusal_form, refused, verdict}
 use Rattle.model.proofs.Model.EveryRow.{Each, ◌&◌, end, found}
 use Rattle.model.proofs.Model.Tables.{byte_at, bytes_drop}
 use Rattle.model.proofs.Model.Tests.{and_off, branch}

@@ -1,6 +1,6 @@
 -- A lump: no call looks at the waiting octets, and a lump comes to one of three things: no room, all of it waits, or a packet is complete and is the
 -- command call of that packet.
-use Rattle.std.specs.Prelude.{ℕ, ◌+◌, ◌-◌, ◌<◌, ◌≤◌, min, ◌≡◌, Bool, [], ◌++◌, length, take, replicate, eqb, leb, ltb}
+use Rattle.std.specs.Prelude.{ℕ, ◌-◌, ◌<◌, ◌≤◌, min, ◌≡◌, Bool, [], ◌++◌, length, take, replicate, eqb, leb, ltb}
 use Rattle.std.proofs.Common.{arith, ap, ◌∙◌, append-nil, length-append, take_all, take_at, length-take-le, leb-true, leb-false}
 use Rattle.std.proofs.Math.Path.{refl}
 use Rattle.std.proofs.Math.Bool.{true, false}

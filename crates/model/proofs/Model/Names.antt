@@ -1,6 +1,6 @@
 -- What is told of a name: no zero octet, at most 248 octets, and the state is as it was.
 use Rattle.std.specs.Prelude.{ℕ, zero, suc, ◌≤◌, ◌<◌, ◌≡◌, refl, true, [], ◌∷◌, length, take, drop, eqb, ltb}
-use Rattle.std.proofs.Common.{arith, sym, ap, ◌∙◌, get_or-take, get_or-drop, lit<, lit≤, eq-eqb}
+use Rattle.std.proofs.Common.{arith, sym, ◌∙◌, get_or-take, get_or-drop, lit<, lit≤, eq-eqb}
 use Rattle.std.proofs.Math.Option.{Option, none, some}
 use Rattle.model.specs.Octets.{Octets, octet, used_part}
 use Rattle.model.specs.State.{Controller, PlainHub, controller_at, name_part, name_ends, short_name_ends}

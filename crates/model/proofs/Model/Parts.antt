@@ -6,11 +6,8 @@ use Rattle.model.specs.State.{Controller, Hardware, RadioSettings, Table, bredr_
 use Rattle.model.specs.State.{table_of, with_host, with_table}
 use Rattle.model.specs.Tables.{TableRule}
 use Rattle.model.specs.Tables.{rule_at, table_rules, uuid_rule}
-use Rattle.model.specs.Rules.{radio}
-use Rattle.model.specs.Commands.{rule}
 use Rattle.model.specs.Image.{name_ok, radio_ok, static_fits, switches_ok}
 use Rattle.model.specs.WellFormed.{advertising_ok, controller_ok, table_ok, tables_ok, timer_ok, widths_ok}
-use Rattle.model.proofs.Model.EveryRow.{◌&◌}
 use Rattle.model.proofs.Model.Tests.{and_true, both, equal, no_way}
 
 -- well formed, taken apart

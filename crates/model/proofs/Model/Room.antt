@@ -1,5 +1,5 @@
 -- No call but save writes more than 1,024 octets: the reply buffer that 01 asks for suffices. One lemma to a row, and the rows as one list.
-use Rattle.std.specs.Prelude.{ℕ, zero, suc, ◌+◌, ◌*◌, ◌≤◌, ◌^◌, ◌≡◌, Bool, true, false, ◌&&◌, ◌||◌, not, List, [], ◌∷◌, ◌++◌, get_or, take, drop, eqb, leb, ltb}
+use Rattle.std.specs.Prelude.{ℕ, suc, ◌+◌, ◌*◌, ◌≤◌, ◌^◌, ◌≡◌, Bool, true, false, ◌&&◌, not, List, [], ◌∷◌, ◌++◌, take, drop, eqb, leb, ltb}
 use Rattle.std.proofs.Common.{arith, sym, length-append, length-take, lit<}
 use Rattle.std.proofs.Math.Path.{refl}
 use Rattle.std.proofs.Math.Option.{Option, none, some}
@@ -36,12 +36,12 @@ use Rattle.model.proofs.Model.Demand3.{state_well}
 use Rattle.model.proofs.Model.Keeps.{well_fit}
 use Rattle.model.proofs.Model.Layout.{length_words}
 use Rattle.model.proofs.Model.RoundTrip.{length_entries}
-use Rattle.model.proofs.Model.Parts.{controller_fit, lengths, table_ok_lem}
+use Rattle.model.proofs.Model.Parts.{lengths, table_ok_lem}
 use Rattle.model.specs.Tables.{rule_at}
 use Rattle.model.proofs.Model.Stays.{controller_ok_lem, plain_fit}
 use Rattle.model.proofs.Model.Tables.{table_fit}
 use Rattle.model.proofs.Model.EveryRow.{Each, ◌&◌, end, found}
-use Rattle.model.proofs.Model.Tests.{and_true, either, equal, no_way}
+use Rattle.model.proofs.Model.Tests.{either, equal, no_way}
 
 -- every call but save
 unfoldable pub not_save : Call → Bool

@@ -1,5 +1,5 @@
 -- Each command keeps a controller well formed: one lemma to a row, and the rows as one list.
-use Rattle.std.specs.Prelude.{ℕ, zero, suc, ◌+◌, ◌*◌, ◌<◌, ◌≤◌, ◌≡◌, refl, Bool, true, false, ◌&&◌, ◌||◌, not, List, [], ◌∷◌, ◌++◌, map, length, take, drop, eqb, leb, ltb}
+use Rattle.std.specs.Prelude.{ℕ, zero, suc, ◌+◌, ◌*◌, ◌≤◌, ◌≡◌, refl, Bool, true, false, ◌&&◌, ◌||◌, not, List, [], ◌∷◌, ◌++◌, map, length, take, drop, eqb, leb, ltb}
 use Rattle.std.proofs.Common.{arith, mul-suc, add_comm, sym, ◌∙◌, length-take, length-drop, lit<, nltb→le, le-leb}
 use Rattle.std.proofs.Math.Option.{Option, none, some}
 use Rattle.model.specs.Octets.{Octets, bytes, octet, u16}
@@ -12,7 +12,7 @@ use Rattle.model.specs.Reasons.{Check, Reason, refused_at, first_of, in_record, 
 use Rattle.model.specs.Tables.{TableRule, begins, blocked_rule, chop, device_rule, empty, every, freed, holds, identity_key_rule}
 use Rattle.model.specs.Tables.{link_key_rule, loaded, rule_at}
 use Rattle.model.specs.Tables.{long_term_key_rule, needs_nothing, record_ok, records_ok, support_ok, table_rules, uuid_rule}
-use Rattle.model.specs.Rules.{Immediate, ImmediateRule, Rule, done, general, immediate, on, radio, refuse, act, unless}
+use Rattle.model.specs.Rules.{Immediate, ImmediateRule, Rule, done, general, immediate, radio, refuse, act, unless}
 use Rattle.model.specs.Immediate.{add_advertising, advertising_checks, advertised, remove_advertising}
 use Rattle.model.specs.Immediate.{KeyList, add_device, add_uuid, block_device, identity_key_list, link_key_list, list_checks, load_keys}
 use Rattle.model.specs.Immediate.{long_term_key_list, read_information}

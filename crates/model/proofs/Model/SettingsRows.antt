@@ -9,7 +9,7 @@ use Rattle.model.specs.State.{with_bredr, with_connectable, with_low_energy, wit
 use Rattle.model.specs.State.{with_static_address}
 use Rattle.model.specs.State.{with_advertising, with_schedule, with_timer}
 use Rattle.model.specs.Reasons.{Check, Reason, first_of}
-use Rattle.model.specs.Rules.{RadioRule, on, radio, set_connectable}
+use Rattle.model.specs.Rules.{RadioRule, on, set_connectable}
 use Rattle.model.specs.Rules.{set_bredr, set_discoverable, set_low_energy, set_powered, set_static_address}
 use Rattle.model.specs.Image.{radio_ok}
 use Rattle.model.specs.WellFormed.{addressed, advertising_ok, controller_ok, settings_fit, timer_ok, widths_ok}
@@ -17,7 +17,6 @@ use Rattle.model.proofs.Model.Advertising.{advertising_fit, le_on_lem, no_advert
 use Rattle.model.proofs.Model.Schedule.{repowered_ok}
 use Rattle.model.proofs.Model.Parts.{controller_fit, fit_controller, fit_radio, fit_widths, radio_fit, widths_fit}
 use Rattle.model.proofs.Model.Tables.{byte_at, lt_true}
-use Rattle.model.proofs.Model.EveryRow.{◌&◌}
 use Rattle.model.proofs.Model.Tests.{and_true, both, either, no_way, not-false, not-true, or_true}
 
 -- 1. What a settings command must keep -------------------------------------------------------------------------------------------------------

@@ -1,5 +1,5 @@
 -- Well formed stays well formed: after any list of calls from a well-formed state with nothing under way.
-use Prim.Native.Nat.{ℕ, zero, suc, ◌+◌, ◌-◌, ◌^◌, ◌<◌}
+use Prim.Native.Nat.{ℕ, zero, suc, ◌-◌, ◌^◌, ◌<◌}
 use Rattle.std.proofs.Common.{arith, sym, ◌∙◌, length-set, ltb→lt}
 use Rattle.std.specs.Prelude.{◌≡◌, Bool, ◌&&◌, ◌||◌, not, length, get_or, drop, set, leb, ltb}
 use Rattle.std.proofs.Math.Path.{refl}
