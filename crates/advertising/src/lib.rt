@@ -1,5 +1,6 @@
 // Advertising over the lent state: instances added, changed and removed, and what the driver is told of the one on air.
 #![tactic(auto)]
+
 ghost use Rattle.std.specs.Prelude.{◌≡◌, true, ◌||◌, ◌+◌, ◌≤◌, get_or, length, eqb};
 ghost use Rattle.model.specs.Codes as Codes;
 ghost use Rattle.model.specs.Lengths as Lengths;

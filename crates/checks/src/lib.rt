@@ -1,5 +1,6 @@
 // Whether lent octets are a well-formed state: for any octets of any length, the model's own test.
 #![tactic(auto)]
+
 ghost use Rattle.std.specs.Prelude.{◌≡◌, ◌+◌, ◌*◌, ◌≤◌, ◌<◌, drop, length};
 ghost use Rattle.model.specs.Lengths as Lengths;
 ghost use Rattle.model.specs.declared.Hardware.{Hardware};

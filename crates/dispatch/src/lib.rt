@@ -1,5 +1,6 @@
 // A command to the function that serves it.
 #![tactic(auto)]
+
 pub mod long;
 
 ghost use Rattle.std.specs.Prelude.{◌≡◌, true, ◌≤◌, length};

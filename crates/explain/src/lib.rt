@@ -1,5 +1,6 @@
 // What is found of a packet, by its code: the command's function, and before it the code, the index and, of a key list, the length.
 #![tactic(auto)]
+
 ghost use Rattle.std.specs.Prelude.{◌≡◌, true, ◌≤◌, length};
 ghost use Rattle.model.specs.Lengths as Lengths;
 ghost use Rattle.model.specs.State.{Controller};

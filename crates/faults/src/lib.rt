@@ -1,6 +1,7 @@
 // What is wrong with a list of keys, and where: the count, what stands before it, the records one by one, records that name one device, and
 // support, in this order. Octets are counted from the packet's first, whose parameters begin at octet 6; records are counted from 0.
 #![tactic(auto)]
+
 ghost use Rattle.std.specs.Prelude.{◌≡◌, map, ◌+◌, ◌*◌, ◌≤◌, ◌<◌, length, drop};
 ghost use Rattle.model.specs.declared.Place.TheVariants.{InRecord};
 ghost use Rattle.model.specs.Octets.{u16};

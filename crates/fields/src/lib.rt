@@ -1,5 +1,6 @@
 // The fixed part of a controller where it lies in an image, from its index on, read field by field: each first whole, then right.
 #![tactic(auto)]
+
 ghost use Rattle.std.specs.Prelude.{◌≡◌, ◌+◌, ◌≤◌, ◌<◌, length, drop};
 ghost use Rattle.model.specs.Octets.{bit};
 ghost use Rattle.model.specs.Image.{bredr_flag, bredr_read, flag_word, name_right, name_size, no_zero};

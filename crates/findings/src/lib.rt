@@ -1,6 +1,7 @@
 // What is found of each command to a controller, the key lists aside: its length, then its checks, one after the other in the order of its rule. Every
 // check is made, also behind the first that fails: this only tells, and nobody waits for it.
 #![tactic(auto)]
+
 ghost use Rattle.std.specs.Prelude.{◌≡◌, ◌≤◌, ◌<◌, length};
 ghost use Rattle.model.specs.State.{Controller, table_of};
 ghost use Rattle.model.specs.Tables as Tables;

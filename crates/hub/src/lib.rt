@@ -2,6 +2,7 @@
 // tells a name, one what is on air, one why a packet would be refused, and one where a record stands; and two that move an image from one version to the
 // other.
 #![tactic(auto)]
+
 ghost use Rattle.std.specs.Prelude.{◌≡◌, ◌+◌, ◌*◌, ◌^◌, ◌≤◌, ◌<◌, ◌++◌, length, true};
 ghost use Rattle.model.specs.Lengths as Lengths;
 ghost use Rattle.model.specs.Hub as Hub;

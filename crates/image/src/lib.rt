@@ -1,5 +1,6 @@
 // The image that save writes of a state, of version 2. Numbers stand high octet first; addresses, names and records stand as in packets.
 #![tactic(auto)]
+
 ghost use Rattle.std.specs.Prelude.{◌≡◌, true, ◌+◌, ◌*◌, ◌≤◌, ◌<◌, map, length};
 ghost use Rattle.model.specs.Lengths as Lengths;
 ghost use Rattle.model.specs.Octets.{joined};

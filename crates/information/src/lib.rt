@@ -1,6 +1,7 @@
 // The commands that tell of the hub and of a controller: version, commands, indexes, controller information; the names, which are set and told here; and where
 // a record stands.
 #![tactic(auto)]
+
 ghost use Rattle.std.specs.Prelude.{◌≡◌, true, ◌+◌, ◌≤◌, ◌<◌, length, ◌&&◌, eqb, ltb};
 ghost use Rattle.model.specs.Codes as Codes;
 ghost use Rattle.model.specs.Lengths as Lengths;

@@ -1,6 +1,7 @@
 // The lent state read and written: only this crate knows where a part lies. A read says what the model's word for that part is, and a write
 // what hub the state stands for afterwards.
 #![tactic(auto)]
+
 pub mod places;
 pub mod waiting;
 

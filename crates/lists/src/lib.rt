@@ -2,6 +2,7 @@
 // value and leaves the reader behind it. `reader_at`, `next` and `read_keys` have the reader and are proved by hand; what a key is, and all that is
 // decided, is in the other functions, over plain values.
 #![tactic(auto)]
+
 ghost use Rattle.std.specs.Prelude.{◌≡◌, ◌+◌, ◌*◌, ◌≤◌, ◌<◌, map, length, get_or, take, drop, set};
 ghost use Rattle.model.specs.Reasons.{passes};
 ghost use Rattle.model.specs.Tables.{chop};

@@ -1,5 +1,6 @@
 // An image read through: table by table, controller by controller. What is told is how far it was right, or the first fault and where that begins.
 #![tactic(auto)]
+
 ghost use Rattle.std.specs.Prelude.{◌≡◌, ◌&&◌, [], map, ◌+◌, ◌-◌, ◌*◌, ◌≤◌, ◌<◌, length, drop, get_or, leb};
 ghost use Rattle.std.proofs.Math.Option.{some};
 ghost use Rattle.model.specs.declared.Hardware.{Hardware};

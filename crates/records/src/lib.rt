@@ -2,6 +2,7 @@
 // A table is known by its number, 0 to 5. Slots from a place on are n slots of the table's record size, and slot j is in use if bit j of a
 // word is set: a table of the lent state has its occupancy word and 32 slots, a list of n records the word of n ones.
 #![tactic(auto)]
+
 ghost use Rattle.std.specs.Prelude.{◌≡◌, ◌+◌, ◌-◌, ◌*◌, ◌^◌, ◌≤◌, ◌<◌, ◌&&◌, map, length};
 ghost use Rattle.model.specs.declared.Hardware.{Hardware};
 ghost use Rattle.model.specs.Octets.{all_zero};

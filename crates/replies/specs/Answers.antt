@@ -1,6 +1,6 @@
 -- What a call answers, by the table of the model, and what it leaves in the reply buffer and the lent state.
 -- Assumes nothing.
-use Rattle.std.specs.Prelude.{◌≡◌, ℕ, ◌++◌, length, drop}
+use Rattle.std.specs.Prelude.{◌≡◌, ◌++◌, length, drop}
 use Rattle.model.specs.Octets.{Octets}
 use Rattle.model.specs.Hub.{Result}
 use Rattle.model.specs.Answers.{number_of, count_of}

@@ -1,5 +1,6 @@
 // Replies and events, each written at a place of the reply buffer; and what a call answers.
 #![tactic(auto)]
+
 ghost use Rattle.std.specs.Prelude.{◌≡◌, ◌+◌, ◌≤◌, ◌∷◌, [], length, take};
 ghost use Rattle.model.specs.Events as Events;
 ghost use Rattle.model.specs.Octets.{le32, command_complete, command_status};

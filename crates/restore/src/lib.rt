@@ -1,5 +1,6 @@
 // The state filled from an image that is acceptable, in either version: one controller after the other, each by its fixed part and its six tables.
 #![tactic(auto)]
+
 ghost use Rattle.std.specs.Prelude.{◌≡◌, false, true, List, [], ◌++◌, ◌+◌, ◌≤◌, ◌<◌, length, drop};
 ghost use Rattle.std.proofs.Math.Option.{none, some};
 ghost use Rattle.model.specs.Lengths as Lengths;

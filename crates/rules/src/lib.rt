@@ -1,5 +1,6 @@
 // What the commands decide and change, by value: no function here touches the lent state or a reply.
 #![tactic(auto)]
+
 pub mod effects;
 
 ghost use Rattle.std.specs.Prelude.{◌≡◌, ◌+◌, ◌≤◌, ◌&&◌, ◌||◌, length};

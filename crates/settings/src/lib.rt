@@ -1,5 +1,6 @@
 // The settings commands over the lent state, and the report: each does to state and reply what the model says, octet for octet.
 #![tactic(auto)]
+
 ghost use Rattle.std.specs.Prelude.{◌≡◌, true, ◌+◌, ◌<◌, ◌≤◌, length};
 ghost use Rattle.model.specs.Codes as Codes;
 ghost use Rattle.model.specs.Lengths as Lengths;

@@ -1,5 +1,6 @@
 // Tables of 32 slots where they lie in lent octets: an occupancy word of four octets, then the slots, of any record size.
 #![tactic(auto)]
+
 ghost use Rattle.std.specs.Prelude.{◌≡◌, ℕ, ◌+◌, ◌*◌, ◌≤◌, ◌<◌, length, drop, set, replicate};
 ghost use Rattle.std.proofs.Math.Option.{none, some};
 ghost use Rattle.model.specs.Tables.{entries, begins, freed, loaded, chop, free};

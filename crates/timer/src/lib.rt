@@ -1,5 +1,6 @@
 // The discoverable timer of a controller, counted down in place.
 #![tactic(auto)]
+
 ghost use Rattle.std.specs.Prelude.{◌≡◌};
 ghost use Rattle.model.specs.Hub as Hub;
 

@@ -5,6 +5,7 @@
 // division, and one round of at most 5 turns is walked: at its end no seconds are left, or an instance went. There are at most five instances,
 // so that 6 rounds are enough for any number of seconds, and `advance` has no more: at most 1 + 6 * 5 = 31 turns are walked.
 #![tactic(auto)]
+
 ghost use Rattle.std.specs.Prelude.{◌≡◌, ◌-◌, ◌≤◌, ◌<◌, [], ◌∷◌};
 ghost use Rattle.model.specs.Advertising.{value_of, with_value, present, first_present, following, passed_on, with_instance, seconds};
 ghost use Rattle.model.specs.Advertising.{no_schedule, whole_turn, added_instance, removed_instance, lasting, powered_off, repowered};

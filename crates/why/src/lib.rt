@@ -1,5 +1,6 @@
 // What is found of a packet: it would be taken, or the first check that fails, and where. How findings follow one another.
 #![tactic(auto)]
+
 ghost use Rattle.std.specs.Prelude.{◌≡◌};
 ghost use Rattle.model.specs.declared.Place.TheVariants.{AtOctet, Nowhere};
 ghost use Rattle.why.specs.Findings.{and_then, busy_if, checked, is_taken};

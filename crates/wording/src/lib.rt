@@ -1,5 +1,6 @@
 // The text that tells what is found of a packet, written into lent octets: the status by its name, the condition in words, and the place.
 #![tactic(auto)]
+
 ghost use Rattle.std.specs.Prelude.{◌≡◌, ◌+◌, ◌≤◌, ◌<◌, length, drop};
 ghost use Rattle.model.specs.Reasons.{status_of};
 ghost use Rattle.why.specs.Findings.{status_in};

@@ -1,6 +1,5 @@
 -- `image::save` meets its contract. The invariant: the images of the controllers from the index come to on are still to be written.
 use mathlib.Core.Path.{refl, sym, ◌∙◌}
-
 use Prim.Native.Nat.{◌-◌, ◌≤◌}
 use native.Mathlib.Omega.{arith}
 use Rattle.layout.proofs.Reading.{ready}
@@ -31,10 +30,10 @@ pub loop-index-preserved : goal.loop-index-preserved
 loop-index-preserved c = (
   search rules,
   elim c.if-present.branch [
-    then-present w ↦ rw (w.out-is, w.place-is, w.count-is)
+    | then-present w ↦ rw (w.out-is, w.place-is, w.count-is)
         (all_present _ _ _ _ _ _ c.loop-index-test.true c.loop-index.invariant.1 _ _
         (sym c.present.ensures ∙ w.if-present.true) w.save_controller-place.ensures.0 w.save_controller-place.ensures.1 w.save_controller-place.ensures.2)
-  | else-present w ↦ rw (w.out-is, w.place-is, w.count-is)
+    | else-present w ↦ rw (w.out-is, w.place-is, w.count-is)
         (all_absent _ _ _ _ _ _ c.loop-index-test.true c.loop-index.invariant.1 (sym c.present.ensures ∙ w.if-present.false))
   ],
 )

@@ -25,29 +25,40 @@ pub overflow_cast-p : goal.overflow_cast-p
 overflow_cast-p c = omega (arith, c.shared_slice_known-in-loop-k-1.given c.loop-k.p)
 
 pub overflow_mul-p : goal.overflow_mul-p
-overflow_mul-p c = omega (arith, ((let told : (c.loop-k.p < length c.args.image.now)
-    × (c.loop-k.p + 1 + c.size_of.result * get_or c.args.image.now c.loop-k.p 0
-    ≤ length c.args.image.now) = let s = c in
-    left_here s.args.image.now s.args.at _ c.loop-k.k _ s.requires c.loop-k-test.true c.size_of.ensures
-    c.loop-k.invariant.3 in told)).1, c.shared_slice_known-in-loop-k-1.given 0)
+overflow_mul-p c = omega (
+  arith,
+  ((let told : (c.loop-k.p < length c.args.image.now)
+      × (c.loop-k.p + 1 + c.size_of.result * get_or c.args.image.now c.loop-k.p 0
+      ≤ length c.args.image.now) = let s = c in
+      left_here s.args.image.now s.args.at _ c.loop-k.k _ s.requires c.loop-k-test.true c.size_of.ensures
+      c.loop-k.invariant.3 in told)).1,
+  c.shared_slice_known-in-loop-k-1.given 0,
+)
 
 pub overflow_add-p-in-loop-k : goal.overflow_add-p-in-loop-k
-overflow_add-p-in-loop-k c = omega (arith, ((let told : (c.loop-k.p < length c.args.image.now)
-    × (c.loop-k.p + 1 + c.size_of.result * get_or c.args.image.now c.loop-k.p 0
-    ≤ length c.args.image.now) = let s = c in
-    left_here s.args.image.now s.args.at _ c.loop-k.k _ s.requires c.loop-k-test.true c.size_of.ensures
-    c.loop-k.invariant.3 in told)).1)
+overflow_add-p-in-loop-k c = omega (
+  arith,
+  ((let told : (c.loop-k.p < length c.args.image.now)
+      × (c.loop-k.p + 1 + c.size_of.result * get_or c.args.image.now c.loop-k.p 0
+      ≤ length c.args.image.now) = let s = c in
+      left_here s.args.image.now s.args.at _ c.loop-k.k _ s.requires c.loop-k-test.true c.size_of.ensures
+      c.loop-k.invariant.3 in told)).1,
+)
 
 pub loop-k-preserved : goal.loop-k-preserved
 loop-k-preserved c =
     let s = c.args in
     let l = left_next s.image.now s.at c.loop-k.p c.loop-k.k _ c.loop-k-test.true
-    c.size_of.ensures c.loop-k.invariant.3 in
-    (search rules, search rules, ((let told : (c.loop-k.p < length c.args.image.now)
-    × (c.loop-k.p + 1 + c.size_of.result * get_or c.args.image.now c.loop-k.p 0
-    ≤ length c.args.image.now) = let s = c in
-    left_here s.args.image.now s.args.at _ c.loop-k.k _ s.requires c.loop-k-test.true c.size_of.ensures
-    c.loop-k.invariant.3 in told)).1, l)
+    c.size_of.ensures c.loop-k.invariant.3 in (
+      search rules,
+      search rules,
+      ((let told : (c.loop-k.p < length c.args.image.now)
+          × (c.loop-k.p + 1 + c.size_of.result * get_or c.args.image.now c.loop-k.p 0
+          ≤ length c.args.image.now) = let s = c in
+          left_here s.args.image.now s.args.at _ c.loop-k.k _ s.requires c.loop-k-test.true c.size_of.ensures
+          c.loop-k.invariant.3 in told)).1,
+      l,
+    )
 
 pub returns : goal.returns
 returns c =

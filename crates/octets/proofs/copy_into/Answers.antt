@@ -1,11 +1,8 @@
 -- `octets::copy_into` meets its contract. The invariant: to write what is left from the present state on gives the whole write.
-use mathlib.Core.Path.{◌≡◌, refl, ◌∙◌}
-use Prim.Native.Nat.{◌+◌, ◌-◌, ◌≤◌}
+use mathlib.Core.Path.{refl, ◌∙◌}
 use native.Mathlib.Omega.{arith}
-use Rattle.octets.specs.Parts.{write_at}
-use lib.ListN.{length, drop, length-set}
+use lib.ListN.{length-set}
 use Rattle.octets.proofs.Laws.{copy_turn, copy_first, copy_last}
-use borrow.Author.Rules.{rules}
 use Rattle.octets.proofs.copy_into.Goals as goal
 
 pub loop-i-init : goal.loop-i-init

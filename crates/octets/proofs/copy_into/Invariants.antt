@@ -1,10 +1,7 @@
-use mathlib.Core.Path.{◌≡◌, refl, ◌∙◌}
+use mathlib.Core.Path.{◌≡◌}
 use Prim.Native.Nat.{◌+◌, ◌-◌, ◌≤◌}
-use native.Mathlib.Omega.{arith}
 use Rattle.octets.specs.Parts.{write_at}
-use lib.ListN.{length, drop, length-set}
-use Rattle.octets.proofs.Laws.{copy_turn, copy_first, copy_last}
-use borrow.Author.Rules.{rules}
+use lib.ListN.{length, drop}
 use Rattle.octets.proofs.copy_into.Given as goal
 
 abbrev pub invariant-loop-i : goal.invariant-loop-i

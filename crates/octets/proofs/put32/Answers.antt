@@ -3,7 +3,6 @@ use native.Mathlib.Omega.{arith}
 use Rattle.model.specs.Octets.{le32}
 use lib.ListN.{length-set}
 use Rattle.octets.proofs.Laws.{four_is}
-use borrow.Author.Rules.{rules}
 use Rattle.octets.proofs.put32.Goals as goal
 
 pub bounds-s-at-2 : goal.bounds-s-at-2

@@ -1,9 +1,6 @@
 -- `octets::same_key` meets its contract. The invariant: what is left to compare tells what the whole tells.
-use mathlib.Core.Path.{◌≡◌, ◌∙◌}
-use Prim.Native.Nat.{◌+◌, ◌-◌, ◌≤◌}
+use mathlib.Core.Path.{◌∙◌}
 use native.Mathlib.Omega.{arith}
-use Rattle.model.specs.Octets.{same}
-use Rattle.octets.specs.Parts.{part}
 use Rattle.octets.proofs.Laws.{same_first}
 use Rattle.octets.proofs.Same.{same_next, same_stops}
 use borrow.Author.Rules.{rules}

@@ -1,11 +1,7 @@
-use mathlib.Core.Path.{◌≡◌, ◌∙◌}
+use mathlib.Core.Path.{◌≡◌}
 use Prim.Native.Nat.{◌+◌, ◌-◌, ◌≤◌}
-use native.Mathlib.Omega.{arith}
 use Rattle.model.specs.Octets.{same}
 use Rattle.octets.specs.Parts.{part}
-use Rattle.octets.proofs.Laws.{same_first}
-use Rattle.octets.proofs.Same.{same_next, same_stops}
-use borrow.Author.Rules.{rules}
 use Rattle.octets.proofs.same_key.Given as goal
 
 abbrev pub invariant-loop-k : goal.invariant-loop-k

@@ -1,10 +1,7 @@
-use mathlib.Core.Path.{◌≡◌, ◌∙◌}
+use mathlib.Core.Path.{◌≡◌}
 use Prim.Native.Nat.{◌+◌, ◌-◌, ◌≤◌}
-use native.Mathlib.Omega.{arith}
 use Rattle.model.specs.Octets.{same}
 use Rattle.octets.specs.Parts.{part}
-use Rattle.octets.proofs.Laws.{same_turn, same_differs, same_first, same_last}
-use borrow.Author.Rules.{rules}
 use Rattle.octets.proofs.same_part.Given as goal
 
 abbrev pub invariant-loop-k : goal.invariant-loop-k

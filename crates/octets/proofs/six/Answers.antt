@@ -1,7 +1,6 @@
 -- `octets::six` meets its contract. The six octets read are the part there.
 use native.Mathlib.Omega.{arith}
 use Rattle.octets.proofs.Laws.{six_is}
-use borrow.Author.Rules.{rules}
 use Rattle.octets.proofs.six.Goals as goal
 
 pub returns : goal.returns

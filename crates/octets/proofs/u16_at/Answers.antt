@@ -2,7 +2,6 @@
 use mathlib.Core.Path.{◌∙◌}
 use native.Mathlib.Omega.{arith}
 use Rattle.octets.proofs.Laws.{u16_is}
-use borrow.Author.Rules.{rules}
 use Rattle.octets.proofs.u16_at.Goals as goal
 
 pub returns : goal.returns

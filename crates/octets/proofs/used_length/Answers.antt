@@ -1,9 +1,6 @@
 -- `octets::used_length` meets its contract. The invariant: the octets passed and the used part of what is left make the used part.
-use mathlib.Core.Path.{◌≡◌, ◌∙◌}
-use Prim.Native.Nat.{◌+◌, ◌-◌, ◌≤◌}
+use mathlib.Core.Path.{◌∙◌}
 use native.Mathlib.Omega.{arith}
-use Rattle.model.specs.Octets.{used_part}
-use lib.ListN.{length, drop}
 use Rattle.octets.proofs.Laws.{used_stop, used_turn, used_first, used_last}
 use borrow.Author.Rules.{rules}
 use Rattle.octets.proofs.used_length.Goals as goal

@@ -1,10 +1,7 @@
-use mathlib.Core.Path.{◌≡◌, ◌∙◌}
+use mathlib.Core.Path.{◌≡◌}
 use Prim.Native.Nat.{◌+◌, ◌-◌, ◌≤◌}
-use native.Mathlib.Omega.{arith}
 use Rattle.model.specs.Octets.{used_part}
 use lib.ListN.{length, drop}
-use Rattle.octets.proofs.Laws.{used_stop, used_turn, used_first, used_last}
-use borrow.Author.Rules.{rules}
 use Rattle.octets.proofs.used_length.Given as goal
 
 abbrev pub invariant-loop-i : goal.invariant-loop-i

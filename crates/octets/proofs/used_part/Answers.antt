@@ -1,6 +1,5 @@
 -- `octets::used_part` meets its contract. The beginning of the name that is as long as its used part is its used part.
 use Rattle.octets.proofs.Laws.{take_used}
-use borrow.Author.Rules.{rules}
 use Rattle.octets.proofs.used_part.Goals as goal
 
 pub slice_bounds-result-end : goal.slice_bounds-result-end

@@ -1,11 +1,8 @@
 -- `octets::zero_fill` meets its contract. The invariant: to write the zeros that are left from the present state on gives the whole write.
-use mathlib.Core.Path.{◌≡◌, refl, ◌∙◌}
-use Prim.Native.Nat.{◌+◌, ◌-◌, ◌≤◌}
+use mathlib.Core.Path.{refl, ◌∙◌}
 use native.Mathlib.Omega.{arith}
-use Rattle.octets.specs.Parts.{write_at}
-use lib.ListN.{length, replicate, length-set}
+use lib.ListN.{length-set}
 use Rattle.octets.proofs.Laws.{fill_turn, fill_first, fill_last}
-use borrow.Author.Rules.{rules}
 use Rattle.octets.proofs.zero_fill.Goals as goal
 
 pub loop-i-init : goal.loop-i-init

@@ -1,10 +1,7 @@
-use mathlib.Core.Path.{◌≡◌, refl, ◌∙◌}
+use mathlib.Core.Path.{◌≡◌}
 use Prim.Native.Nat.{◌+◌, ◌-◌, ◌≤◌}
-use native.Mathlib.Omega.{arith}
 use Rattle.octets.specs.Parts.{write_at}
-use lib.ListN.{length, replicate, length-set}
-use Rattle.octets.proofs.Laws.{fill_turn, fill_first, fill_last}
-use borrow.Author.Rules.{rules}
+use lib.ListN.{length, replicate}
 use Rattle.octets.proofs.zero_fill.Given as goal
 
 abbrev pub invariant-loop-i : goal.invariant-loop-i

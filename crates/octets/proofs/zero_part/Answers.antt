@@ -1,6 +1,5 @@
 -- `octets::zero_part` meets its contract. The part lent to `all_zero` is the part of the contract.
 use Rattle.octets.proofs.Laws.{lent_part}
-use borrow.Author.Rules.{rules}
 use Rattle.octets.proofs.zero_part.Goals as goal
 
 pub returns : goal.returns

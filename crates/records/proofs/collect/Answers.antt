@@ -36,9 +36,9 @@ overflow_add-at c =
 pub loop-left-preserved : goal.loop-left-preserved
 loop-left-preserved c =
     elim c.if-word-eq1.branch [
-      then-word-eq1 w ↦ rw (w.high-is, w.found-is, w.low-is)
+      | then-word-eq1 w ↦ rw (w.high-is, w.found-is, w.low-is)
           (collect_used _ _ _ _ _ _ _ _ _ _ c.loop-left.invariant _ c.loop-left-test.true w.if-word-eq1.true w.identity_at-d.ensures)
-    | else-word-eq1 w ↦ rw (w.high-is, w.found-is, w.low-is)
+      | else-word-eq1 w ↦ rw (w.high-is, w.found-is, w.low-is)
           (collect_free _ _ _ _ _ _ _ _ _ _ c.loop-left.invariant c.loop-left-test.true w.if-word-eq1.false)
     ]
 

@@ -51,11 +51,11 @@ loop-left-preserved c =
     let v = c.loop-left.invariant in
     let l = c.loop-left-test.true in
     elim c.if-word-eq1.branch [
-      then-word-eq1+else-not-record_ok w ↦
+      | then-word-eq1+else-not-record_ok w ↦
           let kept = sym w.record_ok.ensures ∙ w.if-not-record_ok.false in
           rw (w.marks-is, w.put_mark.ensures, w.found-is)
           (walk_used _ _ _ _ _ _ _ _ _ _ _ v _ l w.if-word-eq1.true kept (w.mark_of.ensures ∙ ap mark_of w.identity_at.ensures))
-    | else-word-eq1+else-not-slot_zero w ↦ rw (w.marks-is, w.found-is)
+      | else-word-eq1+else-not-slot_zero w ↦ rw (w.marks-is, w.found-is)
           (walk_free _ _ _ _ _ _ _ _ _ _ _ v l w.if-word-eq1.false (sym w.slot_zero.ensures ∙ w.if-not-slot_zero.false))
     ]
 

@@ -1,6 +1,5 @@
 -- `replies::advertising_removed` meets its contract. What is told of each instance, each behind the one before, is what the model tells of all.
 use Rattle.replies.proofs.Advertising.{removed_row}
-use borrow.Author.Rules.{rules}
 use Rattle.replies.proofs.advertising_removed.Goals as goal
 
 pub returns : goal.returns

@@ -1,7 +1,6 @@
 -- `replies::event_head` meets its contract. Three numbers written one after the other are the head.
 use Rattle.replies.proofs.Laws.{writes}
 use Rattle.replies.specs.Frames.{event_head}
-use borrow.Author.Rules.{rules}
 use Rattle.replies.proofs.event_head.Goals as goal
 
 pub returns : goal.returns

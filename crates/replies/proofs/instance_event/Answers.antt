@@ -1,7 +1,6 @@
 -- `replies::instance_event` meets its contract. The head and the instance, written one after the other, are the model's event.
 use mathlib.Core.Path.{refl, ◌∙◌}
 use Rattle.replies.proofs.Laws.{event_write}
-use borrow.Author.Rules.{rules}
 use Rattle.replies.proofs.instance_event.Goals as goal
 
 pub returns : goal.returns

@@ -1,6 +1,5 @@
 -- `replies::instance_removed` meets its contract. An instance that was not there, or stays, is not told.
 use Rattle.replies.proofs.Advertising.{removed_absent, removed_stays, told_none, told_gone}
-use borrow.Author.Rules.{rules}
 use Rattle.replies.proofs.instance_removed.Goals as goal
 
 pub returns-then-before-eq0 : goal.returns-then-before-eq0

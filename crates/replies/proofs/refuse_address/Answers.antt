@@ -1,7 +1,6 @@
 -- `replies::refuse_address` meets its contract. The address and type are the first seven octets.
 use mathlib.Core.Path.{refl, ◌∙◌}
 use Rattle.octets.proofs.Parts.{part_first}
-use borrow.Author.Rules.{rules}
 use Rattle.replies.proofs.refuse_address.Goals as goal
 
 pub returns : goal.returns

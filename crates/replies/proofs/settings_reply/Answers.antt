@@ -1,7 +1,6 @@
 -- `replies::settings_reply` meets its contract. Where the settings are the same the reply is all; else New Settings follows it.
 use mathlib.Core.Path.{◌∙◌}
 use Rattle.replies.proofs.Laws.{length_same, settings_same, length_new, settings_new}
-use borrow.Author.Rules.{rules}
 use Rattle.replies.proofs.settings_reply.Goals as goal
 
 pub returns-then-old-new : goal.returns-then-old-new

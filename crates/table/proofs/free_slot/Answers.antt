@@ -3,7 +3,6 @@ use native.Mathlib.Omega.{arith}
 use lib.Count.{trailing_le}
 use Rattle.table.proofs.Regions.{free_at}
 use Rattle.table.proofs.Laws.{free_full, zeros_fit}
-use borrow.Author.Rules.{rules}
 use Rattle.table.proofs.free_slot.Goals as goal
 
 pub returns-then-w : goal.returns-then-w

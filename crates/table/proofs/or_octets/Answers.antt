@@ -1,9 +1,7 @@
 -- `table::or_octets` meets its contract. The invariant: what was joined, joined with the octets of what is left, is the whole; and the slot come to is in use.
-use Prim.Native.Nat.{◌-◌, ◌≤◌, ◌<◌}
 use native.Mathlib.Omega.{arith}
-use Rattle.table.specs.Slots.{InUse}
 use Rattle.table.proofs.Regions.{slot_room}
-use Rattle.table.proofs.Laws.{Joined, joined_first, joined_turn, joined_last}
+use Rattle.table.proofs.Laws.{joined_first, joined_turn, joined_last}
 use borrow.Author.Rules.{rules}
 use Rattle.table.proofs.or_octets.Goals as goal
 

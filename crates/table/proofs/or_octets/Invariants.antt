@@ -1,9 +1,6 @@
 use Prim.Native.Nat.{◌-◌, ◌≤◌, ◌<◌}
-use native.Mathlib.Omega.{arith}
 use Rattle.table.specs.Slots.{InUse}
-use Rattle.table.proofs.Regions.{slot_room}
-use Rattle.table.proofs.Laws.{Joined, joined_first, joined_turn, joined_last}
-use borrow.Author.Rules.{rules}
+use Rattle.table.proofs.Laws.{Joined}
 use Rattle.table.proofs.or_octets.Given as goal
 
 abbrev pub invariant-loop-slot : goal.invariant-loop-slot

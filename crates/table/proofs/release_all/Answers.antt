@@ -1,6 +1,5 @@
 -- `table::release_all` meets its contract. An empty table is all zeros.
 use Rattle.table.proofs.Regions.{region_nones}
-use borrow.Author.Rules.{rules}
 use Rattle.table.proofs.release_all.Goals as goal
 
 pub returns : goal.returns

@@ -1,10 +1,7 @@
 -- `table::release_matching` meets its contract. The invariant: what is still to be freed of the table now is what was to be freed of it at first. There is
 -- an entry less each turn.
 use native.Mathlib.Omega.{arith}
-use lib.ListN.{length}
-use Rattle.model.specs.Tables.{begins, entries}
-use Rattle.table.specs.Slots.{table_at}
-use Rattle.table.proofs.Laws.{Freeing, freeing_first, freeing_turn, freeing_less, freeing_last, other_slot}
+use Rattle.table.proofs.Laws.{freeing_first, freeing_turn, freeing_less, freeing_last, other_slot}
 use borrow.Author.Rules.{rules}
 use Rattle.table.proofs.release_matching.Goals as goal
 

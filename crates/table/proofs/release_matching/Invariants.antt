@@ -1,9 +1,7 @@
-use native.Mathlib.Omega.{arith}
 use lib.ListN.{length}
 use Rattle.model.specs.Tables.{begins, entries}
 use Rattle.table.specs.Slots.{table_at}
-use Rattle.table.proofs.Laws.{Freeing, freeing_first, freeing_turn, freeing_less, freeing_last, other_slot}
-use borrow.Author.Rules.{rules}
+use Rattle.table.proofs.Laws.{Freeing}
 use Rattle.table.proofs.release_matching.Given as goal
 
 abbrev pub invariant-loop-at : goal.invariant-loop-at

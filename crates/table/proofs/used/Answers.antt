@@ -2,7 +2,6 @@
 use native.Mathlib.Omega.{arith}
 use lib.Count.{ones-le}
 use Rattle.table.proofs.Regions.{used_at}
-use borrow.Author.Rules.{rules}
 use Rattle.table.proofs.used.Goals as goal
 
 pub returns : goal.returns

@@ -20,8 +20,8 @@ loop-i-preserved c =
     let met = c.loop-i.met in (
       search rules,
       elim c.if-marks-i.branch [
-        then-marks-i w ↦ rw w.met-is (meet_same ms d i met c.loop-i-test.true w.if-marks-i.true)
-      | else-marks-i w ↦ rw w.met-is (meet_other ms d i met c.loop-i-test.true w.if-marks-i.false)
+        | then-marks-i w ↦ rw w.met-is (meet_same ms d i met c.loop-i-test.true w.if-marks-i.true)
+        | else-marks-i w ↦ rw w.met-is (meet_other ms d i met c.loop-i-test.true w.if-marks-i.false)
       ]
           ∙ c.loop-i.invariant.1,
     )
