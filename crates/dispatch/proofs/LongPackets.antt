@@ -25,7 +25,8 @@ use Rattle.model.specs.Commands.{read_commands, read_indexes, read_version, rule
 use Rattle.model.specs.Hub.{by_rule, command_out}
 use Rattle.model.specs.Layout.{decode}
 use Rattle.model.specs.Meanings.{state_ok, laid_out}
-use Rattle.model.proofs.Model.Long.{LongParams, by_list, controller_reason, list_fits, long_refused, long_reason, same_fits}
+use Rattle.model.proofs.Model.Long.{LongParams, long_refused, same_fits}
+use Rattle.model.specs.Long.{by_list, controller_reason, list_fits, long_reason}
 use Rattle.model.proofs.Model.Tests.{equal, no_way}
 use Rattle.model.proofs.Model.WaitingOctets.{bytes_zeros}
 use Rattle.octets.specs.Parts.{write_at}

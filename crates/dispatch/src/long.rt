@@ -7,7 +7,7 @@ ghost use Rattle.model.specs.Reasons.{status_of};
 ghost use Rattle.model.specs.Commands.{rule};
 ghost use Rattle.model.specs.Layout.{decode};
 ghost use Rattle.model.specs.Meanings.{state_ok};
-ghost use Rattle.model.proofs.Model.Long.{list_fits, long_reason};
+ghost use Rattle.model.specs.Long.{list_fits, long_reason};
 ghost use Rattle.replies.specs.Answers.{Gives};
 ghost use Rattle.outcomes.specs.Outcomes.{any_command};
 ghost use Rattle.dispatch.specs.Groups.{member, general_codes};

@@ -7,7 +7,7 @@ use Rattle.model.specs.declared.Place.TheVariants.{AtOctet}
 use Rattle.model.specs.declared.Reason.TheVariants.{CountAbove32, RecordRepeated}
 use Rattle.model.specs.Tables.{TableRule, chop, first_pair, le_address_checks, rule_at}
 use Rattle.model.specs.Immediate.{record_checks}
-use Rattle.model.proofs.Model.Pairs.{nowhere}
+use Rattle.model.specs.Tables.{nowhere}
 use Rattle.octets.specs.Parts.{part}
 use Rattle.why.specs.declared.Finding.{Finding}
 use Rattle.why.specs.Findings.{and_then, checked, first_wrong, in_packet}

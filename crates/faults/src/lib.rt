@@ -7,7 +7,7 @@ ghost use Rattle.model.specs.declared.Place.TheVariants.{InRecord};
 ghost use Rattle.model.specs.Octets.{u16};
 ghost use Rattle.model.specs.Tables.{chop, first_pair, link_key_rule, long_term_key_rule, rule_at};
 ghost use Rattle.model.specs.Immediate.{identity_key_list, link_key_list, list_checks, long_term_key_list, records_of};
-ghost use Rattle.model.proofs.Model.Pairs.{nowhere};
+ghost use Rattle.model.specs.Tables.{nowhere};
 ghost use Rattle.why.specs.Findings.{and_then, checked, first_wrong, in_packet};
 ghost use Rattle.faults.specs.Faults.{address_fault, list_fault, record_fault, records_fault};
 

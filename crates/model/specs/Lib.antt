@@ -12,6 +12,7 @@ pub mod LookUp
 pub mod Rules
 pub mod Immediate
 pub mod Commands
+pub mod Long
 pub mod Image
 pub mod Reading
 pub mod Hub

@@ -19,7 +19,8 @@ use Rattle.model.specs.Hub.{Result, answer_of, call, command_out, keep, outcome,
 use Rattle.model.specs.Layout.{decode}
 use Rattle.model.specs.Meanings.{bad_state, hub_command, laid_out, meaning, state_ok}
 use Rattle.model.proofs.Model.Tests.{no_way}
-use Rattle.model.proofs.Model.Pairs.{IsFirst, first_pair_lem, nowhere, pair_if_repeated}
+use Rattle.model.proofs.Model.Pairs.{IsFirst, first_pair_lem, pair_if_repeated}
+use Rattle.model.specs.Tables.{nowhere}
 use Rattle.why.specs.declared.Finding.{Finding}
 use Rattle.why.specs.declared.Finding.TheVariants.{Busy, Taken, Wrong}
 use Rattle.why.specs.Findings.{status_in, why}

@@ -1,5 +1,5 @@
 -- `faults::is_nowhere` meets its contract: a case for each place.
-use Rattle.model.proofs.Model.Pairs.{nowhere}
+use Rattle.model.specs.Tables.{nowhere}
 use borrow.Author.Rules.{rules}
 use Rattle.faults.proofs.is_nowhere.Goals as goal
 

@@ -20,6 +20,7 @@ use Rattle.model.specs.Commands.{rows, rule}
 use Rattle.model.specs.Hub.{Outcome, anyway, bad_packet, by_rule, by_status, call, code_of, command, command_out, finished, general_out}
 use Rattle.model.specs.Hub.{immediate_at, immediate_done}
 use Rattle.model.specs.Hub.{index_of, no_room, packet_ok, params_of, radio_at, refusal_form, refused, verdict}
+use Rattle.model.specs.Long.{by_list, controller_reason, list_fits, long_reason}
 use Rattle.model.proofs.Model.EveryRow.{Each, ◌&◌, end, found}
 use Rattle.model.proofs.Model.Tables.{byte_at, bytes_drop}
 use Rattle.model.proofs.Model.Tests.{and_off, branch}
@@ -30,21 +31,6 @@ use Rattle.model.proofs.Model.Tests.{and_off, branch}
 pub record LongParams (ps : Octets) : Type 0 where
   pub long : 1154 < length ps
   pub octets : bytes ps ≡ true
-
--- of three answers that of the list with this code, and no for a code that is none of a list
-unfoldable pub by_list : (code : ℕ) (link long_term identity : Bool) → Bool
-by_list code link long_term identity =
-    elim (eqb code Codes.load_link_keys) [
-      | true ↦ link
-      | false ↦ elim (eqb code Codes.load_long_term_keys) [
-        | true ↦ long_term
-        | false ↦ elim (eqb code Codes.load_identity_keys) [ true ↦ identity | false ↦ false ]
-      ]
-    ]
-
--- the code is that of a list of keys, and n octets of parameters that begin so are as many as its count says
-unfoldable pub list_fits : ℕ → ℕ → Octets → Bool
-list_fits code n ps = by_list code (counted link_key_list n ps) (counted long_term_key_list n ps) (counted identity_key_list n ps)
 
 -- what a command that is never Busy makes of them: the length is wrong, or it is right and the count is above 32
 pub data Long (q : ImmediateRule) (c : Controller) (ps : Octets) : Bool → Type 0 where
@@ -143,18 +129,6 @@ unfolding rule
 long_row code u e = found LongRule code rows u all_long e
 
 -- 2. The reason -----------------------------------------------------------------------------------------------------------------------------
-
--- of a command to a controller: no controller is there, the count is above 32, or the length is wrong
-unfoldable pub controller_reason : Bool → Option Controller → Reason
-controller_reason fits none = ControllerAbsent
-controller_reason fits (some c) = elim fits [ true ↦ CountAbove32 | false ↦ LengthWrong ]
-
--- why a long packet is refused: its code, its index, its length, its count
-unfoldable pub long_reason : (index : ℕ) (fits : Bool) → Option Controller → Option Rule → Reason
-long_reason i fits s none = CodeUnknown
-long_reason i fits s (some (general f)) = elim (eqb i 0xFFFF) [ true ↦ LengthWrong | false ↦ IndexNotNone ]
-long_reason i fits s (some (immediate q)) = controller_reason fits s
-long_reason i fits s (some (radio r)) = controller_reason fits s
 
 -- a command that only tells has no parameters
 general_long : (p : PlainHub) (i code : ℕ) (ps : Octets) (f : PlainHub → Octets) (fits : Bool) (s : Option Controller) → LongParams ps

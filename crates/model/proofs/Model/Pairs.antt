@@ -3,7 +3,7 @@ use Rattle.std.specs.Prelude.{ℕ, zero, suc, ◌+◌, ◌-◌, ◌<◌, ◌≤�
 use Rattle.std.proofs.Common.{arith, sym, ◌∙◌, ltb→lt, nltb→le}
 use Rattle.model.specs.Octets.{Octets, same}
 use Rattle.model.specs.Reasons.{Place, Nowhere, AtOctet, InRecord, Records}
-use Rattle.model.specs.Tables.{any, distinct, first_pair, pair_with}
+use Rattle.model.specs.Tables.{any, distinct, first_pair, nowhere, pair_with}
 use Rattle.model.proofs.Model.Tests.{no_way}
 
 -- keys c and d, the lower first, are the same
@@ -94,13 +94,6 @@ first_pair_lem n (k ∷ ks) = go (found_pair n k (suc n) ks (first_pair (suc n) 
         let y : m - n ≡ suc d = omega arith in
         (omega arith, rw (x, y) (omega arith, omega arith, s), first_here n k ks d m z f)
     go (miss f) g = first_later n k ks f (first_pair (suc n) ks) g
-
--- no place is named
-unfoldable pub nowhere : Place → Bool
-nowhere Nowhere = true
-nowhere (AtOctet a) = false
-nowhere (InRecord a b) = false
-nowhere (Records a b) = false
 
 -- a key that is not the same as any of the others has a pair only if they have one
 no_pair_with : (a : ℕ) (k : Octets) (b : ℕ) (js : List Octets) (rest : Place) → nowhere (pair_with a k b js rest) ≡ (not (any (same k) js) && nowhere rest)
