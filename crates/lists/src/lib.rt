@@ -1,6 +1,6 @@
 // A list of key records in a packet, gone through with one reader: the packet that was lent, and how far it is read. `next` hands out a key by
-// value and leaves the reader behind it. `reader_at`, `next` and `read_keys` have the reader and are proved by hand; what a key is, and all that is
-// decided, is in the other functions, over plain values.
+// value and leaves the reader behind it. `reader_at`, `next` and `read_keys` have the reader; what a key is, and all that is decided, is in the other
+// functions, over plain values.
 #![tactic(auto)]
 
 ghost use Rattle.std.specs.Prelude.{◌≡◌, ◌+◌, ◌*◌, ◌≤◌, ◌<◌, map, length, get_or, take, drop, set};
