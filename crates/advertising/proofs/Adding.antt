@@ -2,12 +2,12 @@
 use Prim.Native.Nat.{ℕ, ◌+◌, ◌-◌, ◌≤◌}
 use native.Mathlib.Omega.{arith}
 use mathlib.Core.Path.{◌≡◌, refl, sym, ap, ◌∙◌}
-use mathlib.Core.Bool.{Bool, true, false, not}
+use mathlib.Core.Bool.{Bool, true, false}
 use mathlib.Core.List.{[], ◌∷◌, ◌++◌, append-nil}
 use mathlib.Core.Option.{none, some}
 use lib.ListN.{length, get_or, take, drop, length-append, length-drop, length-take}
 use lib.Seq.{take_all}
-use lib.Dec.{eqb, lit≤}
+use lib.Dec.{lit≤}
 use Rattle.model.specs.Codes as Codes
 use Rattle.model.specs.Events as Events
 use Rattle.model.specs.Lengths as Lengths
@@ -19,7 +19,7 @@ use Rattle.model.specs.declared.Schedule.{Schedule}
 use Rattle.model.specs.Advertising.{added_instance, advertising_added, present, whole_turn}
 use Rattle.model.specs.Octets.{Octets, command_complete, command_status, event, le16, octet, u16}
 use Rattle.model.specs.declared.Settings.{Settings}
-use Rattle.model.specs.State.{Controller, Host, settings_of, with_advertising, with_host}
+use Rattle.model.specs.State.{Controller, settings_of, with_advertising, with_host}
 use Rattle.model.proofs.Model.Advertising.{advertising_fit}
 use Rattle.model.proofs.Model.Schedule.{on_air_five}
 use Rattle.layout.proofs.Advertising.{advertising_fine}
@@ -30,12 +30,13 @@ use Rattle.model.specs.Immediate.{add_advertising, advertised, advertising_check
 use Rattle.model.specs.Layout.{decode, encode}
 use Rattle.model.proofs.Model.Room.{length_complete}
 use Rattle.octets.specs.Parts.{part, write_at}
-use Rattle.octets.proofs.Parts.{part_first, write_split}
+use Rattle.octets.proofs.Parts.{write_split}
 use Rattle.layout.specs.Advertising.{with_instance_data}
 use Rattle.layout.specs.Places.{Ready, controller_of, put_controller}
 use Rattle.replies.specs.Answers.{Gives}
 use Rattle.outcomes.specs.Outcomes.{immediate_command}
 use Rattle.outcomes.proofs.Endings.{immediate_done_lem, immediate_length, immediate_status}
+use Rattle.std.specs.Prelude.{Option, Some}
 use Rattle.advertising.specs.Refusals.{status_if}
 use Rattle.advertising.proofs.Refusals.{checks_passed, size_true, some_refuses}
 
@@ -103,12 +104,12 @@ module _ (s : Octets) (i : ℕ) (ps : Octets) (d d' : Octets) (r : Answer) (give
   by_status_lem = refl
 
   -- refused with a status
-  pub add_refused : (x : ℕ) → add_advertising.size ps ≡ true → x ≡ status_if (first_of (advertising_checks here.radio ps)) → (x ≡ 0 → ⊥)
+  pub add_refused : (x : ℕ) → add_advertising.size ps ≡ true → status_if (first_of (advertising_checks here.radio ps)) ≡ Some x
       → r ≡ Refused 9 → d' ≡ write_at d 0 (command_status i Codes.add_advertising x)
       → Gives (immediate_command s i Codes.add_advertising ps add_advertising) r d d' s
-  add_refused x z e n m w =
-      let y = some_refuses (first_of (advertising_checks here.radio ps)) (λ f. n (e ∙ f)) in
-      let q : x ≡ status_of y.0 = e ∙ sym y.2 in
+  add_refused x z e m w =
+      let y = some_refuses (first_of (advertising_checks here.radio ps)) x e in
+      let q : x ≡ status_of y.0 = sym y.2 in
       immediate_status s i Codes.add_advertising ps add_advertising d d' r given big z y.0 by_status_lem (act_refused y.0 y.1) m (rw q at w)
 
   -- the parameters' first octet alone
@@ -162,7 +163,7 @@ unfolding settings_of
 radio_of m c e = rw e
 
 -- the status told is that of the controller's own radio settings
-pub refusal_here : (q : ℕ) (m : Settings) (c : Controller) (ps : Octets) → q ≡ status_if (first_of (advertising_checks m.radio ps)) → m ≡ settings_of c
+pub refusal_here : (q : Option ℕ) (m : Settings) (c : Controller) (ps : Octets) → q ≡ status_if (first_of (advertising_checks m.radio ps)) → m ≡ settings_of c
     → q ≡ status_if (first_of (advertising_checks c.radio ps))
 refusal_here q m c ps e f = e ∙ ap (λ (x : RadioSettings). status_if (first_of (advertising_checks x ps))) (radio_of m c f)
 

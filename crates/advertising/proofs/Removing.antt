@@ -4,9 +4,8 @@ use native.Mathlib.Omega.{arith}
 use mathlib.Core.Path.{◌≡◌, refl, sym, ap, ◌∙◌}
 use mathlib.Core.Bool.{Bool, true, false, ◌&&◌, ◌||◌, not}
 use mathlib.Core.List.{List, [], ◌∷◌, ◌++◌}
-use mathlib.Core.Option.{none, some}
 use lib.ListN.{length, get_or, length-append}
-use lib.Dec.{eqb, lit≤}
+use lib.Dec.{eqb}
 use borrow.Author.Tests.{eq-eqb, ne_eqb}
 use Rattle.model.specs.Codes as Codes
 use Rattle.model.specs.Lengths as Lengths
@@ -34,10 +33,6 @@ use Rattle.outcomes.proofs.Endings.{immediate_done_lem, immediate_length, immedi
 
 -- 1. Which can be named -----------------------------------------------------------------------------------------------------------------------
 
--- 0 names all
-pub all_named : (s : Schedule) (k : ℕ) → k ≡ 0 → true ≡ eqb k 0 || present s k
-all_named s k e = rw (eq-eqb k 0 e)
-
 -- beyond the end of a list
 past_end : (l : List ℕ) (j : ℕ) → length l ≤ j → get_or l j 0 ≡ 0
 past_end [] j h = refl
@@ -49,10 +44,6 @@ pub none_above : (s : Schedule) (k : ℕ) → length s.durations ≡ 5 → (k �
 unfolding present duration_of value_of
 none_above s zero n z l = absurd (omega arith)
 none_above s (suc j) n z l = rw (ne_eqb (suc j) 0 z, past_end s.durations j (omega arith))
-
--- one of five
-pub one_named : (s : Schedule) (k : ℕ) → (k ≡ 0 → ⊥) → present s k ≡ eqb k 0 || present s k
-one_named s k z = rw (ne_eqb k 0 z)
 
 -- neither 0 nor there
 none_of : (a b : Bool) → a || b ≡ false → not a && not b ≡ true

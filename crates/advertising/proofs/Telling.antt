@@ -1,22 +1,21 @@
 -- What is told of the instance on air: from what the steps leave to what the model says of it.
 use Prim.Native.Nat.{ℕ, ◌+◌, ◌≤◌}
 use native.Mathlib.Omega.{arith}
-use mathlib.Core.Path.{◌≡◌, refl, sym, ap, ◌∙◌}
+use mathlib.Core.Path.{◌≡◌, refl, sym, ◌∙◌}
 use mathlib.Core.Bool.{true, false}
 use mathlib.Core.List.{[], ◌∷◌, ◌++◌}
-use mathlib.Core.Option.{none, some}
 use lib.ListN.{length, length-append}
 use lib.Dec.{eqb}
-use borrow.Author.Tests.{eq-eqb, ne_eqb}
+use borrow.Author.Tests.{ne_eqb}
 use Rattle.model.specs.Lengths as Lengths
 use Rattle.model.specs.declared.Answer.{Answer}
 use Rattle.model.specs.declared.Answer.TheVariants.{BadArgument, Done}
 use Rattle.model.specs.declared.Schedule.{Schedule}
 use Rattle.model.specs.Advertising.{data_of, on_air_octets}
 use Rattle.model.specs.Octets.{Octets}
-use Rattle.model.specs.State.{Controller, controller_at}
+use Rattle.model.specs.State.{Controller}
 use Rattle.model.specs.Hub.{answer_of, octets_of, state_of}
-use Rattle.model.specs.Layout.{decode, encode}
+use Rattle.model.specs.Layout.{decode}
 use Rattle.model.specs.Meanings.{on_air_out, state_ok}
 use Rattle.model.proofs.Model.Advertising.{advertising_fit}
 use Rattle.model.proofs.Model.Demand3.{state_back}

@@ -21,42 +21,22 @@ use model::{Answer, RadioSettings, Schedule, codes, statuses};
 pub fn sized(ps: &[u8]) -> bool
     ensures { result ≡ add_advertising.size ps.now }
 {
-    if ps.len() < 11 {
-        return false;
-    }
-    ps.len() == 11 + ps[9] as usize + ps[10] as usize
+    11 <= ps.len() && ps.len() == 11 + usize::from(ps[9]) + usize::from(ps[10])
 }
 
-// The status that refuses Add Advertising on these radio settings, 0 where none does.
-fn refusal(r: RadioSettings, ps: &[u8]) -> u8
+// The status that refuses Add Advertising on these radio settings, if one does.
+#[tactic(auto, unfolding(crate::specs::Refusals::status_if, model::specs::Immediate::advertising_checks, model::specs::Reasons::first_of, model::specs::Reasons::status_of, model::specs::Octets::octet))]
+fn refusal(r: RadioSettings, ps: &[u8]) -> Option<u8>
     requires { 11 ≤ length ps.now }
     ensures { result ≡ status_if (first_of (advertising_checks r ps.now)) }
 {
-    if ps[0] == 0 {
-        return statuses::INVALID_PARAMETERS;
+    if ps[0] == 0 || 5 < ps[0] || !octets::all_zero(&ps[1..5]) || 31 < ps[9] || 31 < ps[10] {
+        return Some(statuses::INVALID_PARAMETERS);
     }
-    if 5 < ps[0] {
-        return statuses::INVALID_PARAMETERS;
+    if !r.low_energy || !r.powered && octets::u16_at(ps, 7) != 0 {
+        return Some(statuses::REJECTED);
     }
-    if !octets::zero_part(ps, 1, 4) {
-        return statuses::INVALID_PARAMETERS;
-    }
-    if 31 < ps[9] {
-        return statuses::INVALID_PARAMETERS;
-    }
-    if 31 < ps[10] {
-        return statuses::INVALID_PARAMETERS;
-    }
-    if !r.low_energy {
-        return statuses::REJECTED;
-    }
-    if r.powered {
-        return 0;
-    }
-    if octets::u16_at(ps, 7) == 0 {
-        return 0;
-    }
-    statuses::REJECTED
+    None
 }
 
 // Keeps the instance that Add Advertising names, with its turns and data.
@@ -71,10 +51,9 @@ fn keep(state: &mut [u8], index: u64, ps: &[u8], powered: bool, old: Schedule)
     let k = ps[0];
     let duration = turns::whole_turn(octets::u16_at(ps, 5) as u16);
     let timeout = octets::u16_at(ps, 7) as u16;
-    let mid = 11 + ps[9] as usize;
-    let end = ps.len();
+    let mid = 11 + usize::from(ps[9]);
     let next = turns::add(old, powered, k, duration, timeout);
-    layout::put_instance(state, index, next, k, &ps[11..mid], &ps[mid..end]);
+    layout::put_instance(state, index, next, k, &ps[11..mid], &ps[mid..]);
 }
 
 // 0x003E Add Advertising.
@@ -91,15 +70,13 @@ pub fn add_advertising(state: &mut [u8], index: u64, ps: &[u8], reply: &mut [u8]
             statuses::INVALID_PARAMETERS,
         );
     }
-    let m = layout::settings_at(state, index);
-    let r = m.radio;
-    let status = refusal(r, ps);
-    if status != 0 {
+    let r = layout::settings_at(state, index).radio;
+    if let Some(status) = refusal(r, ps) {
         return replies::refuse(reply, index, codes::ADD_ADVERTISING, status);
     }
     let old = layout::schedule_at(state, index);
     keep(state, index, ps, r.powered, old);
-    replies::command_complete_part(reply, 0, index, codes::ADD_ADVERTISING, 0, ps, 0, 1);
+    replies::command_complete(reply, 0, index, codes::ADD_ADVERTISING, 0, &ps[..1]);
     if turns::is_present(old, ps[0]) {
         return Answer::Done(10);
     }
@@ -111,13 +88,7 @@ pub fn add_advertising(state: &mut [u8], index: u64, ps: &[u8], reply: &mut [u8]
 pub fn removable(s: Schedule, k: u8) -> bool
     ensures { (result ≡ (eqb k 0 || present s k)) × (result ≡ true → k ≤ 5) }
 {
-    if k == 0 {
-        return true;
-    }
-    if 5 < k {
-        return false;
-    }
-    turns::is_present(s, k)
+    k == 0 || k <= 5 && turns::is_present(s, k)
 }
 
 // 0x003F Remove Advertising.

@@ -1,7 +1,7 @@
 -- Unplug and plug: from what their steps leave to what the model says of them, over plain values.
 -- Assumes nothing.
 use mathlib.Core.Path.{◌≡◌, refl, sym, ◌∙◌}
-use Prim.Native.Nat.{ℕ, ◌+◌, ◌-◌, ◌≤◌, ◌<◌}
+use Prim.Native.Nat.{ℕ, ◌≤◌, ◌<◌}
 use native.Mathlib.Omega.{arith}
 use mathlib.Core.Bool.{Bool, true, false, ◌&&◌}
 use mathlib.Core.List.{[], ◌++◌}
@@ -39,11 +39,6 @@ use Rattle.model.proofs.Model.Room.{length_status}
 pub bad_argument_lem : (s d : Octets) (o : Outcome) (r : Answer) → state_ok s ≡ true → o ≡ bad_argument → r ≡ BadArgument → Gives (ended s o) r d d s
 unfolding answer_of octets_of state_of
 bad_argument_lem s d o r ok e n = rw (e, n) (ends_silent s d bad_argument BadArgument ok refl refl refl refl)
-
--- an event with no parameters
-pub event_bare : (d d' : Octets) (at code i : ℕ) (src : Octets) → d' ≡ write_at d at (event code i (part src 0 0)) → d' ≡ write_at d at (event code i [])
-unfolding part
-event_bare d d' at code i src w = w
 
 -- 2. Unplug -------------------------------------------------------------------------------------------------------------------------------------
 

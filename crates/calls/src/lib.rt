@@ -23,8 +23,7 @@ fn index_event(reply: &mut [u8], at: usize, code: u64, index: u64)
     requires { at + 6 ≤ length reply.old }
     ensures { reply.new ≡ write_at reply.old at (Octets.event code index []) }
 {
-    let none: [u8; 1] = [0];
-    replies::event_part(reply, at, code, index, &none, 0, 0);
+    replies::event(reply, at, code, index, &[]);
 }
 
 // Unplugs the controller at an index: the command under way there is told Invalid Index, Index Removed comes behind, and the index is empty.
@@ -72,9 +71,8 @@ pub fn plug(
     if address.len() != 6 {
         return Answer::BadArgument;
     }
-    let public_address = octets::six(address, 0);
     let f = Hardware {
-        public_address,
+        public_address: octets::six(address, 0),
         version,
         manufacturer,
         supported,
@@ -91,10 +89,7 @@ pub fn plug(
 fn counted(before: Settings, step: u32) -> Settings
     ensures { result ≡ settings_timer before (countdown step before.host.timer) }
 {
-    let host = before.host;
-    let timer = host.timer;
-    let left = timer::counted_down(timer, step);
-    rules::effects::with_timer(before, left)
+    rules::effects::with_timer(before, timer::counted_down(before.host.timer, step))
 }
 
 // New Settings at the place, if the timer of the settings before ends with this step. Returns the place behind.
@@ -110,11 +105,8 @@ fn timer_end(
     ensures { (result ≤ place + 10) × (result ≡ place + length (end_event (ends step before.host.timer) index after))
         × (reply.new ≡ write_at reply.old place (end_event (ends step before.host.timer) index after)) }
 {
-    let host = before.host;
-    let timer = host.timer;
-    if rules::ends(timer, step) {
-        let word = rules::current_settings(after);
-        replies::new_settings(reply, place, index, word);
+    if rules::ends(before.host.timer, step) {
+        replies::new_settings(reply, place, index, rules::current_settings(after));
         return place + 10;
     }
     place
@@ -127,9 +119,7 @@ fn tick_timer(state: &mut [u8], index: u64, step: u32, reply: &mut [u8], place: 
     ensures { Ticked state.old step index place result reply.old reply.new state.new }
 {
     let before = layout::settings_at(state, index);
-    let host = before.host;
-    let timer = host.timer;
-    if timer.seconds == 0 {
+    if before.host.timer.seconds == 0 {
         return place;
     }
     let after = counted(before, step);

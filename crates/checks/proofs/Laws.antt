@@ -1,7 +1,7 @@
 -- Laws that the proofs of this crate cite, over plain lists and numbers.
 use Prim.Native.Nat.{ℕ, zero, suc, ◌+◌, ◌-◌, ◌*◌, ◌/◌, ◌%◌, ◌^◌, ◌<◌, ◌≤◌}
 use native.Mathlib.Omega.{arith}
-use native.Mathlib.Nat.{add-zero, pow-suc, sub-zero}
+use native.Mathlib.Nat.{pow-suc}
 use native.Mathlib.Numerals.{add-one}
 use mathlib.Core.Path.{◌≡◌, refl, sym, ◌∙◌}
 use mathlib.Core.Bool.{Bool, true, false, ◌&&◌}
@@ -30,7 +30,6 @@ use Rattle.layout.specs.Places.{base, controller_of, place_of, present_at, sizes
 use Rattle.layout.proofs.Reading.{name_at}
 use Rattle.octets.specs.Parts.{part, place_at}
 use Rattle.octets.proofs.Parts.{get_d_part, length_part}
-use Rattle.octets.proofs.Laws.{part_suc}
 use Rattle.rules.specs.declared.Decision.{Decision}
 use Rattle.rules.specs.Decisions.{decision, is_started, settings_ok}
 use Rattle.checks.proofs.Tests.{and_on}
@@ -62,28 +61,22 @@ or_zero a b = go (eqb a 0) refl
         let n = eqb-false a 0 e in
         ne_eqb (bit_or a b) 0 (λ q. n (omega (arith, or_add_and a b, and_le_r a b)))
 
--- a part is zero if its first octet is and the rest is
-zeros_suc : (s : Octets) (a n : ℕ) → a < length s → all_zero (part s a (suc n)) ≡ eqb (get_or s a 0) 0 && all_zero (part s (a + 1) n)
-unfolding all_zero
-zeros_suc s a n h = rw (part_suc s a n h)
-
 -- what is joined so far and what is left
-pub blank_turn : (s : Octets) (at n i joined : ℕ) → i < n → at + n ≤ length s
-    → eqb (bit_or joined (get_or s (at + i) 0)) 0 && all_zero (part s (at + (i + 1)) (n - (i + 1))) ≡ eqb joined 0 && all_zero (part s (at + i) (n - i))
-blank_turn s at n i joined l h =
-    let e : n - i ≡ suc (n - (i + 1)) = omega arith in
-    let f : at + (i + 1) ≡ at + i + 1 = omega arith in
-    rw (e, f, or_zero joined (get_or s (at + i) 0), zeros_suc s (at + i) (n - (i + 1)) (omega arith))
-    (assoc (eqb joined 0) (eqb (get_or s (at + i) 0) 0) (all_zero (part s (at + i + 1) (n - (i + 1)))))
-
--- before the first turn, the whole part is left
-pub blank_first : (s : Octets) (at n : ℕ) → all_zero (part s (at + 0) (n - 0)) ≡ all_zero (part s at n)
-blank_first s at n = rw (add-zero, sub-zero)
+pub blank_turn : (s : Octets) (i joined : ℕ) → i < length s
+    → eqb (bit_or joined (get_or s i 0)) 0 && all_zero (drop (i + 1) s) ≡ eqb joined 0 && all_zero (drop i s)
+unfolding all_zero
+blank_turn s i joined l =
+    rw (or_zero joined (get_or s i 0), drop-cons s i 0 l, add-one) (assoc (eqb joined 0) (eqb (get_or s i 0) 0) (all_zero (drop (suc i) s)))
 
 -- after the last turn nothing is left, and what is joined tells
-pub blank_last : (s : Octets) (at n i joined : ℕ) → n ≤ i → eqb joined 0 ≡ eqb joined 0 && all_zero (part s (at + i) (n - i))
-unfolding all_zero part
-blank_last s at n i joined l = let e : n - i ≡ 0 = omega arith in rw e (sym (and_on (eqb joined 0)))
+pub blank_last : (s : Octets) (i joined : ℕ) → length s ≤ i → eqb joined 0 ≡ eqb joined 0 && all_zero (drop i s)
+unfolding all_zero
+blank_last s i joined l = rw (drop_of_length-le s {i = i} l) (sym (and_on (eqb joined 0)))
+
+-- a lent part is zero exactly if the part of the same octets is
+pub lent_zero : (s : Octets) (a z n : ℕ) → z ≡ a + n → all_zero (take (z - a) (drop a s)) ≡ all_zero (part s a n)
+unfolding part
+lent_zero s a z n e = let f : z - a ≡ n = omega arith in rw f
 
 -- 2. Places -----------------------------------------------------------------------------------------------------------------------------------
 

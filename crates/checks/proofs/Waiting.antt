@@ -1,16 +1,15 @@
 -- The waiting octets: the test that the code makes is the model's.
 use Prim.Native.Nat.{ℕ, zero, suc, ◌+◌, ◌-◌, ◌<◌, ◌≤◌}
 use native.Mathlib.Omega.{arith}
-use native.Mathlib.Nat.{add-zero}
 use mathlib.Core.Path.{◌≡◌, refl, sym, ap, ◌∙◌}
-use mathlib.Core.Bool.{Bool, true, false, ◌&&◌}
+use mathlib.Core.Bool.{true, false, ◌&&◌}
 use mathlib.Core.List.{[], ◌∷◌, ◌++◌}
-use lib.ListN.{length, get_or, take, drop, replicate, length-append, length-drop, length-replicate, take-append-drop}
-use lib.Seq.{drop_at, drop-drop, get_or-drop, length-take-le, take_all}
+use lib.ListN.{length, take, drop, replicate, length-drop, take-append-drop}
+use lib.Seq.{drop_at, drop-drop, length-take-le, take_all}
 use lib.Dec.{eqb, ltb}
 use borrow.Author.Tests.{le-ltb, eq-eqb, eqb-true, lt-ltb, ltb-true}
 use Rattle.model.specs.Lengths as Lengths
-use Rattle.model.specs.Octets.{Octets, all_zero, bytes, le32, same, u16, u32}
+use Rattle.model.specs.Octets.{Octets, all_zero, bytes, le32, u32}
 use Rattle.model.specs.Stream.{kept_count, length_said, waiting_at}
 use Rattle.model.specs.WellFormed.{waiting_ok}
 use Rattle.model.specs.Layout.{decode, waiting_back, waiting_part}

@@ -22,35 +22,28 @@ fn zeros(l: [u16; 5]) -> bool
 fn on_or_zeros(on: bool, l: [u16; 5]) -> bool
     ensures { result ≡ (on || all_zero l) }
 {
-    if on {
-        return true;
-    }
-    zeros(l)
+    on || zeros(l)
 }
 
 // The duration or timeout of instance k, 0 for what is no instance.
+#[tactic(auto, using(crate::proofs::AdvertisingLaws::value_none, crate::proofs::AdvertisingLaws::value_past, crate::proofs::AdvertisingLaws::value_some))]
 fn value_of(l: [u16; 5], k: u8) -> u16
     ensures { result ≡ value_of l k }
 {
-    if k == 0 {
-        return 0;
+    match k {
+        1..=5 => l[usize::from(k) - 1],
+        _ => 0,
     }
-    if k <= 5 {
-        return l[(k - 1) as usize];
-    }
-    0
 }
 
 // Whether no absent instance has a timeout.
 fn times_ok(durations: [u16; 5], timeouts: [u16; 5]) -> bool
     ensures { result ≡ (eqb (length durations) 5 && times_ok durations timeouts) }
 {
-    let mut k: usize = 0;
-    while k < 5 {
-        if !there_or_zero(durations[k], timeouts[k] as usize) {
+    for p in 0..5 {
+        if !there_or_zero(durations[p], usize::from(timeouts[p])) {
             return false;
         }
-        k += 1;
     }
     true
 }
@@ -59,43 +52,29 @@ fn times_ok(durations: [u16; 5], timeouts: [u16; 5]) -> bool
 fn there_or_zero(duration: u16, n: usize) -> bool
     ensures { result ≡ (not (eqb duration 0) || eqb n 0) }
 {
-    if duration == 0 {
-        return n == 0;
-    }
-    true
+    duration != 0 || n == 0
 }
 
 // Whether an instance is on air exactly if power is on and one is there, for 1 second to its whole duration.
+#[tactic(auto, using(crate::proofs::AdvertisingLaws::turn_rests, crate::proofs::AdvertisingLaws::turn_runs))]
 fn turn_ok(t: Schedule, powered: bool) -> bool
     ensures { result ≡ turn_ok powered t }
 {
-    let durations = t.durations;
-    if on_or_zeros(!powered, durations) {
-        if t.on_air == 0 {
-            return t.left == 0;
-        }
-        return false;
+    if on_or_zeros(!powered, t.durations) {
+        return t.on_air == 0 && t.left == 0;
     }
-    if t.left == 0 {
-        return false;
-    }
-    t.left <= value_of(durations, t.on_air)
+    t.left != 0 && t.left <= value_of(t.durations, t.on_air)
 }
 
 // Whether a schedule keeps its rules, of a controller with these settings.
+#[tactic(auto, unfolding(model::specs::WellFormed::schedule_ok))]
 fn schedule_ok(t: Schedule, le: bool, powered: bool) -> bool
     ensures { result ≡ schedule_ok le powered t }
 {
-    let durations = t.durations;
-    let timeouts = t.timeouts;
-    if times_ok(durations, timeouts) {
-        if on_or_zeros(le, durations) {
-            if on_or_zeros(powered, timeouts) {
-                return turn_ok(t, powered);
-            }
-        }
-    }
-    false
+    times_ok(t.durations, t.timeouts)
+        && on_or_zeros(le, t.durations)
+        && on_or_zeros(powered, t.timeouts)
+        && turn_ok(t, powered)
 }
 
 // Data
@@ -105,13 +84,8 @@ fn slot_ok(s: &[u8], at: usize, duration: u16) -> bool
     requires { at + 32 ≤ length s.now }
     ensures { result ≡ slot_octets_ok duration s.now at }
 {
-    let n = octets::wide(s[at]) as usize;
-    if n <= 31 {
-        if there_or_zero(duration, n) {
-            return blank(s, at + (1 + n), 31 - n);
-        }
-    }
-    false
+    let n = usize::from(s[at]);
+    n <= 31 && there_or_zero(duration, n) && blank(&s[at + (1 + n)..at + 32])
 }
 
 // Whether those of five instances, one behind the other, are.
@@ -120,13 +94,11 @@ fn data_ok(s: &[u8], place: usize, durations: [u16; 5]) -> bool
     ensures { result ≡ data_octets_ok durations s.now place }
 {
     let mut at = place;
-    let mut k: usize = 0;
-    while k < 5 {
-        if !slot_ok(s, at, durations[k]) {
+    for d in &durations {
+        if !slot_ok(s, at, *d) {
             return false;
         }
         at += 32;
-        k += 1;
     }
     true
 }
@@ -137,14 +109,10 @@ pub fn advertising_ok(s: &[u8], at: usize, t: Schedule, le: bool, powered: bool)
     requires { (at + 343 ≤ length s.now) × (t ≡ schedule_back (drop at s.now)) }
     ensures { result ≡ advertising_octets_ok le powered s.now at }
 {
-    let durations = t.durations;
-    if zeros(durations) {
-        return blank(s, at, 343);
+    if zeros(t.durations) {
+        return blank(&s[at..at + 343]);
     }
-    if schedule_ok(t, le, powered) {
-        if data_ok(s, at + 23, durations) {
-            return data_ok(s, at + 183, durations);
-        }
-    }
-    false
+    schedule_ok(t, le, powered)
+        && data_ok(s, at + 23, t.durations)
+        && data_ok(s, at + 183, t.durations)
 }

@@ -19,21 +19,18 @@ ghost use Rattle.checks.specs.Settings.{flags_octets_ok};
 ghost use Rattle.checks.specs.Tables.{table_octets_ok, tables_octets_ok};
 ghost use Rattle.checks.specs.Waiting.{waiting_octets_ok};
 
-use model::{RadioSettings, codes, lengths};
+use model::{Hardware, RadioSettings, codes, lengths};
 use rules::Decision;
 
 mod advertising;
 
-// Whether the n octets from a place on are zero. They nearly always are, so they are joined by or, with no test before the end.
-fn blank(s: &[u8], at: usize, n: usize) -> bool
-    requires { at + n ≤ length s.now }
-    ensures { result ≡ all_zero (part s.now at n) }
+// Whether all octets are zero. They nearly always are, so they are joined by or, with no test before the end.
+fn blank(s: &[u8]) -> bool
+    ensures { result ≡ all_zero s.now }
 {
-    let mut joined: u8 = 0;
-    let mut i: usize = 0;
-    while i < n {
-        joined = joined | s[at + i];
-        i += 1;
+    let mut joined = 0u8;
+    for x in s {
+        joined |= *x;
     }
     joined == 0
 }
@@ -46,28 +43,24 @@ fn table_ok(s: &[u8], at: usize, k: usize, supported: u32) -> bool
     ensures { (f : Hardware) → f.supported ≡ supported → result ≡ table_octets_ok (rule_at k) f s.now at }
 {
     let w = octets::u32_at(s, at);
+    let slots = at + 4;
     if w == 0 {
-        return blank(s, at + 4, records::size_of(k) * 32);
+        return blank(&s[slots..slots + records::size_of(k) * 32]);
     }
-    if records::supports(k, supported) {
-        return records::slots_keep_rules(k, s, at + 4, 32, w);
-    }
-    false
+    records::supports(k, supported) && records::slots_keep_rules(k, s, slots, 32, w)
 }
 
-// Whether the six tables that lie from a place on are so.
-fn tables_ok(s: &[u8], place: usize, supported: u32) -> bool
+// Whether the six tables that lie from a place on are so, of a controller with this hardware.
+fn tables_ok(s: &[u8], place: usize, f: Hardware) -> bool
     requires { place + 3736 ≤ length s.now }
-    ensures { (f : Hardware) → f.supported ≡ supported → result ≡ tables_octets_ok f table_rules s.now place }
+    ensures { result ≡ tables_octets_ok f table_rules s.now place }
 {
     let mut at = place;
-    let mut k: usize = 0;
-    while k < 6 {
-        if !table_ok(s, at, k, supported) {
+    for k in 0..6 {
+        if !table_ok(s, at, k, f.supported) {
             return false;
         }
-        at = at + (4 + records::size_of(k) * 32);
-        k += 1;
+        at += 4 + records::size_of(k) * 32;
     }
     true
 }
@@ -75,15 +68,11 @@ fn tables_ok(s: &[u8], place: usize, supported: u32) -> bool
 // The open command
 
 // Whether a decision is to wait for the radio.
+#[tactic(auto, unfolding(rules::specs::Decisions::is_started))]
 fn waits(d: Decision) -> bool
     ensures { result ≡ is_started d }
 {
-    match d {
-        Decision::Refuse(_) => false,
-        Decision::Reject(_) => false,
-        Decision::Wait => true,
-        Decision::Act => false,
-    }
+    matches!(d, Decision::Wait)
 }
 
 // Whether nothing is under way and all is zero, or a command that would be started on these radio settings, with zeros behind its parameters.
@@ -93,26 +82,22 @@ fn open_ok(s: &[u8], at: usize, r: RadioSettings) -> bool
 {
     let code = octets::u16_at(s, at);
     if code == 0 {
-        return octets::zero_part(s, at + 2, 3);
+        return octets::all_zero(&s[at + 2..at + 5]);
     }
     if code == codes::SET_DISCOVERABLE {
         return waits(rules::decide_discoverable(r, &s[at + 2..at + 5]));
     }
-    if octets::zero_part(s, at + 3, 2) {
-        if code == codes::SET_POWERED {
-            return waits(rules::decide_powered(r, &s[at + 2..at + 3]));
-        }
-        if code == codes::SET_CONNECTABLE {
-            return waits(rules::decide_connectable(r, &s[at + 2..at + 3]));
-        }
-        if code == codes::SET_LOW_ENERGY {
-            return waits(rules::decide_low_energy(r, &s[at + 2..at + 3]));
-        }
-        if code == codes::SET_BREDR {
-            return waits(rules::decide_bredr(r, &s[at + 2..at + 3]));
-        }
+    if !octets::all_zero(&s[at + 3..at + 5]) {
+        return false;
     }
-    false
+    let value = &s[at + 2..at + 3];
+    match code {
+        codes::SET_POWERED => waits(rules::decide_powered(r, value)),
+        codes::SET_CONNECTABLE => waits(rules::decide_connectable(r, value)),
+        codes::SET_LOW_ENERGY => waits(rules::decide_low_energy(r, value)),
+        codes::SET_BREDR => waits(rules::decide_bredr(r, value)),
+        _ => false,
+    }
 }
 
 // Blocks
@@ -126,22 +111,17 @@ fn block_place(i: u64) -> usize
 }
 
 // Whether each of the six flags of the block that begins at b is 0 or 1.
+#[tactic(auto, unfolding(crate::specs::Settings::flags_octets_ok))]
 fn flags_ok(s: &[u8], b: usize) -> bool
     requires { b + 33 ≤ length s.now }
     ensures { result ≡ flags_octets_ok s.now b }
 {
-    if s[b + layout::places::POWERED] <= 1 {
-        if s[b + layout::places::CONNECTABLE] <= 1 {
-            if s[b + layout::places::DISCOVERABLE] <= 1 {
-                if s[b + layout::places::BONDABLE] <= 1 {
-                    if s[b + layout::places::BREDR] <= 1 {
-                        return s[b + layout::places::LOW_ENERGY] <= 1;
-                    }
-                }
-            }
-        }
-    }
-    false
+    s[b + layout::places::POWERED] <= 1
+        && s[b + layout::places::CONNECTABLE] <= 1
+        && s[b + layout::places::DISCOVERABLE] <= 1
+        && s[b + layout::places::BONDABLE] <= 1
+        && s[b + layout::places::BREDR] <= 1
+        && s[b + layout::places::LOW_ENERGY] <= 1
 }
 
 // Whether name and short name of index i end in a zero.
@@ -150,10 +130,7 @@ fn name_ok(s: &[u8], i: u64) -> bool
     ensures { result ≡ name_ok (controller_of s.now i).host.name }
 {
     let at = layout::name_place(i);
-    if s[at + 248] == 0 {
-        return s[at + 259] == 0;
-    }
-    false
+    s[at + 248] == 0 && s[at + 259] == 0
 }
 
 // Whether the block of index i, which has a controller, is well formed.
@@ -164,28 +141,19 @@ fn controller_ok(s: &[u8], i: u64) -> bool
     let b = block_place(i);
     let m = layout::settings_at(s, i);
     let r = m.radio;
-    let f = r.hardware;
-    if rules::radio_ok(r) {
-        if rules::settings_fit(m) {
-            if name_ok(s, i) {
-                if flags_ok(s, b) {
-                    if open_ok(s, b + layout::places::OPEN_CODE, r) {
-                        if tables_ok(s, b + layout::places::TABLES, f.supported) {
-                            let t = layout::schedule_at(s, i);
-                            return advertising::advertising_ok(
-                                s,
-                                b + layout::places::ADVERTISING,
-                                t,
-                                r.low_energy,
-                                r.powered,
-                            );
-                        }
-                    }
-                }
-            }
-        }
-    }
-    false
+    rules::radio_ok(r)
+        && rules::settings_fit(m)
+        && name_ok(s, i)
+        && flags_ok(s, b)
+        && open_ok(s, b + layout::places::OPEN_CODE, r)
+        && tables_ok(s, b + layout::places::TABLES, r.hardware)
+        && advertising::advertising_ok(
+            s,
+            b + layout::places::ADVERTISING,
+            layout::schedule_at(s, i),
+            r.low_energy,
+            r.powered,
+        )
 }
 
 // Whether block i is well formed: a controller's, or all zero.
@@ -196,7 +164,8 @@ fn block_ok(s: &[u8], i: u64) -> bool
     if layout::present(s, i) {
         return controller_ok(s, i);
     }
-    blank(s, block_place(i), lengths::BLOCK)
+    let b = block_place(i);
+    blank(&s[b..b + lengths::BLOCK])
 }
 
 // Whether less than one packet waits, with zeros behind what is kept of it.
@@ -206,31 +175,22 @@ fn waiting_ok(s: &[u8]) -> bool
 {
     let n = layout::waiting::taken(s);
     let said = layout::waiting::kept_said(s);
-    if n < said {
-        let kept = layout::waiting::kept_count(n, said);
-        return blank(
-            s,
-            layout::waiting::KEPT + kept,
-            lengths::LONGEST_KEPT - kept,
-        );
+    if said <= n {
+        return false;
     }
-    false
+    let kept = layout::waiting::kept_count(n, said);
+    let behind = layout::waiting::KEPT + kept;
+    blank(&s[behind..behind + (lengths::LONGEST_KEPT - kept)])
 }
 
 // Whether lent octets are a well-formed state.
 pub fn well_formed(state: &[u8]) -> bool
     ensures { result ≡ state_ok state.now }
 {
-    if state.len() == lengths::STATE {
-        if block_ok(state, 0) {
-            if block_ok(state, 1) {
-                if block_ok(state, 2) {
-                    if block_ok(state, 3) {
-                        return waiting_ok(state);
-                    }
-                }
-            }
-        }
-    }
-    false
+    state.len() == lengths::STATE
+        && block_ok(state, 0)
+        && block_ok(state, 1)
+        && block_ok(state, 2)
+        && block_ok(state, 3)
+        && waiting_ok(state)
 }

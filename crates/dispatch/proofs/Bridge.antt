@@ -1,13 +1,10 @@
 -- The ways out of the dispatch, each as one law over plain variables.
 -- Assumes nothing.
-use Prim.Native.Nat.{ℕ, ◌+◌, ◌≤◌}
+use Prim.Native.Nat.{ℕ, ◌≤◌}
 use mathlib.Core.Path.{◌≡◌, refl, sym}
-use mathlib.Core.Bool.{Bool, true, false, ◌&&◌, ◌||◌}
-use mathlib.Core.List.{List, [], ◌∷◌, ◌++◌}
+use mathlib.Core.Bool.{true, false}
 use mathlib.Core.Option.{Option, none, some}
 use lib.ListN.{length}
-use lib.Dec.{eqb}
-use borrow.Author.Tests.{ne_eqb}
 use Rattle.model.specs.Statuses as Statuses
 use Rattle.model.specs.Codes as Codes
 use Rattle.model.specs.Lengths as Lengths
@@ -24,7 +21,7 @@ use Rattle.model.specs.Immediate.{unpair_device, block_device, unblock_device, a
 use Rattle.model.specs.Commands.{rows, find, rule, read_version, read_commands, read_indexes}
 use Rattle.model.specs.Hub.{refused, by_status}
 use Rattle.model.specs.Meanings.{state_ok}
-use Rattle.model.proofs.Model.Tests.{no_way, equal, and_true}
+use Rattle.model.proofs.Model.Tests.{no_way}
 use Rattle.octets.specs.Parts.{write_at}
 use Rattle.layout.specs.Places.{Ready, present_at}
 use Rattle.replies.specs.Answers.{Gives}
@@ -33,8 +30,9 @@ use Rattle.model.specs.declared.Answer.TheVariants.{Refused}
 use Rattle.outcomes.specs.Outcomes.{general_command, immediate_command, radio_command, any_command, ended}
 use Rattle.outcomes.proofs.Endings.{ends_refused}
 use Rattle.outcomes.proofs.Routes.{route_unknown, route_general, route_immediate, route_immediate_absent, route_radio, route_radio_absent}
-use Rattle.dispatch.specs.Groups.{member, general_codes, settings_codes, key_codes, device_codes, advertising_codes, information_codes, controller_codes}
-use Rattle.dispatch.proofs.Groups.{member_rest, member_last, member_other, rule_unknown}
+use Rattle.dispatch.specs.declared.command.ControllerCommand.{ControllerCommand}
+use Rattle.dispatch.specs.Commands.{controller_code}
+use Rattle.dispatch.proofs.Commands.{controller_rule, is_controllers}
 
 -- 1. A code's function --------------------------------------------------------------------------------------------------------------------------
 
@@ -56,109 +54,30 @@ module _ (s : Octets) (i code known : ℕ) (ps d d' s' : Octets) (r : Answer) (e
 
 -- 2. Refusals -----------------------------------------------------------------------------------------------------------------------------------
 
--- the rule of a command to a controller
-unfoldable pub to_controller : Option Rule → Bool
-to_controller none = false
-to_controller (some (general_rule f)) = false
-to_controller (some (immediate q)) = true
-to_controller (some (radio q)) = true
-
--- all these codes have one
-all_to : List ℕ → Bool
-all_to [] = true
-all_to (c ∷ cs) = to_controller (rule c) && all_to cs
-
--- so any one of them has one
-member_to : (code : ℕ) (cs : List ℕ) → all_to cs ≡ true → member code cs ≡ true → to_controller (rule code) ≡ true
-unfolding all_to member
-member_to code [] a m = no_way (sym m)
-member_to code (c ∷ cs) a m = let b = and_true (to_controller (rule c)) _ a in go (eqb code c) refl m b.0 (member_to code cs b.1)
-  where
-    go : (b : Bool) → eqb code c ≡ b → b || member code cs ≡ true → to_controller (rule c) ≡ true
-        → (member code cs ≡ true → to_controller (rule code) ≡ true) → to_controller (rule code) ≡ true
-    go true e m t k = rw (equal code c e) t
-    go false e m t k = k m
-
--- so has every code of the five groups
-pub codes_to : (code : ℕ) → member code controller_codes ≡ true → to_controller (rule code) ≡ true
-unfolding all_to to_controller rule find rows controller_codes settings_codes key_codes device_codes advertising_codes information_codes
-codes_to code m = member_to code controller_codes refl m
-
--- a code other than 1, 2 and 3 is not general
-pub general_none : (code : ℕ) → (code ≡ Codes.read_version → ⊥) → (code ≡ Codes.read_commands → ⊥) → (code ≡ Codes.read_indexes → ⊥)
-    → member code general_codes ≡ false
-unfolding member general_codes
-general_none code a b c = rw (ne_eqb code 1 a, ne_eqb code 2 b, ne_eqb code 3 c)
-
 module _ (s : Octets) (i code : ℕ) (ps d d' : Octets) (r : Answer) (ok : state_ok s ≡ true) (big : Lengths.reply_buffer ≤ length d) where
   -- whichever rule of a command to a controller it is, an absent index is Invalid Index
-  absent_by : present_at s i ≡ false → (u : Option Rule) → rule code ≡ u → to_controller u ≡ true
+  absent_by : present_at s i ≡ false → (u : Option Rule) → rule code ≡ u → is_controllers u ≡ true
       → any_command s i code ps ≡ ended s (refused (by_status i code) ControllerAbsent)
-  unfolding to_controller
+  unfolding is_controllers
   absent_by e none eu t = no_way (sym t)
   absent_by e (some (general_rule f)) eu t = no_way (sym t)
   absent_by e (some (immediate q)) eu t = route_immediate_absent s i code ps q eu e
   absent_by e (some (radio q)) eu t = route_radio_absent s i code ps q eu e
 
   -- a command to an absent index
-  pub arm_absent : member code controller_codes ≡ true → present_at s i ≡ false → r ≡ Refused 9
+  pub arm_absent : (k : ControllerCommand) → code ≡ controller_code k → present_at s i ≡ false → r ≡ Refused 9
       → d' ≡ write_at d 0 (command_status i code Statuses.invalid_index) → Gives (any_command s i code ps) r d d' s
   unfolding status_of
-  arm_absent m e n w = rw (absent_by e (rule code) refl (codes_to code m)) (ends_refused s i code ControllerAbsent d d' r ok big n w)
+  arm_absent k ec e n w =
+      rw (absent_by e (rule code) refl (rw ec (controller_rule k))) (ends_refused s i code ControllerAbsent d d' r ok big n w)
 
   -- a code that is not known
-  pub arm_unknown : (code ≡ Codes.read_version → ⊥) → (code ≡ Codes.read_commands → ⊥) → (code ≡ Codes.read_indexes → ⊥)
-      → member code controller_codes ≡ false → r ≡ Refused 9 → d' ≡ write_at d 0 (command_status i code Statuses.unknown_command)
+  pub arm_unknown : rule code ≡ none → r ≡ Refused 9 → d' ≡ write_at d 0 (command_status i code Statuses.unknown_command)
       → Gives (any_command s i code ps) r d d' s
   unfolding status_of
-  arm_unknown a b c m n w =
-      rw (route_unknown s i code ps (rule_unknown code (general_none code a b c) m)) (ends_refused s i code CodeUnknown d d' r ok big n w)
+  arm_unknown e n w = rw (route_unknown s i code ps e) (ends_refused s i code CodeUnknown d d' r ok big n w)
 
--- 3. The groups ---------------------------------------------------------------------------------------------------------------------------------
-
--- the last of a group is what the others are not
-pub settings_last : (code : ℕ) → member code settings_codes ≡ true → (code ≡ Codes.set_powered → ⊥) → (code ≡ Codes.set_discoverable → ⊥)
-    → (code ≡ Codes.set_connectable → ⊥) → (code ≡ Codes.set_bondable → ⊥) → (code ≡ Codes.set_low_energy → ⊥) → (code ≡ Codes.set_bredr → ⊥)
-    → code ≡ Codes.set_static_address
-unfolding settings_codes
-settings_last code m a b c d e f =
-    member_last code _
-    (member_rest code _ _ (member_rest code _ _ (member_rest code _ _ (member_rest code _ _ (member_rest code _ _ (member_rest code _ _ m a) b) c) d) e) f)
-
--- the same, of the keys: Unpair Device is left
-pub keys_last : (code : ℕ) → member code key_codes ≡ true → (code ≡ Codes.load_link_keys → ⊥) → (code ≡ Codes.load_long_term_keys → ⊥)
-    → (code ≡ Codes.load_identity_keys → ⊥) → code ≡ Codes.unpair_device
-unfolding key_codes
-keys_last code m a b c = member_last code _ (member_rest code _ _ (member_rest code _ _ (member_rest code _ _ m a) b) c)
-
--- the same, of UUIDs and devices: Remove Device is left
-pub devices_last : (code : ℕ) → member code device_codes ≡ true → (code ≡ Codes.add_uuid → ⊥) → (code ≡ Codes.remove_uuid → ⊥)
-    → (code ≡ Codes.block_device → ⊥) → (code ≡ Codes.unblock_device → ⊥) → (code ≡ Codes.add_device → ⊥) → code ≡ Codes.remove_device
-unfolding device_codes
-devices_last code m a b c d e =
-    member_last code _ (member_rest code _ _ (member_rest code _ _ (member_rest code _ _ (member_rest code _ _ (member_rest code _ _ m a) b) c) d) e)
-
--- the same, of advertising: Remove Advertising is left
-pub advertising_last : (code : ℕ) → member code advertising_codes ≡ true → (code ≡ Codes.add_advertising → ⊥) → code ≡ Codes.remove_advertising
-unfolding advertising_codes
-advertising_last code m a = member_last code _ (member_rest code _ _ m a)
-
--- the same, of information and name: Set Local Name is left
-pub information_last : (code : ℕ) → member code information_codes ≡ true → (code ≡ Codes.read_information → ⊥) → code ≡ Codes.set_local_name
-unfolding information_codes
-information_last code m a = member_last code _ (member_rest code _ _ m a)
-
--- of the commands to a controller, those of no other group
-pub information_left : (code : ℕ) → member code controller_codes ≡ true → member code settings_codes ≡ false → member code key_codes ≡ false
-    → member code device_codes ≡ false → member code advertising_codes ≡ false → member code information_codes ≡ true
-unfolding controller_codes
-information_left code m a b c d =
-    member_other code advertising_codes information_codes
-    (member_other code device_codes (advertising_codes ++ information_codes)
-    (member_other code key_codes (device_codes ++ (advertising_codes ++ information_codes))
-    (member_other code settings_codes (key_codes ++ (device_codes ++ (advertising_codes ++ information_codes))) m a) b) c) d
-
--- 4. The rules by code --------------------------------------------------------------------------------------------------------------------------
+-- 3. The rules by code --------------------------------------------------------------------------------------------------------------------------
 
 -- Read Version is a general command
 pub rule_01 : rule Codes.read_version ≡ some (general_rule read_version)

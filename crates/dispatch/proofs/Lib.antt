@@ -1,3 +1,3 @@
 pub mod Bridge
 pub mod LongPackets
-pub mod Groups
+pub mod Commands

@@ -3,13 +3,13 @@
 use Prim.Native.Nat.{ℕ, ◌+◌, ◌-◌, ◌*◌, ◌≤◌, ◌<◌}
 use native.Mathlib.Omega.{arith}
 use mathlib.Core.Path.{◌≡◌, refl, sym, ap, ◌∙◌}
-use mathlib.Core.Bool.{Bool, true, false, ◌||◌}
+use mathlib.Core.Bool.{Bool, true, false}
 use mathlib.Core.List.{◌++◌}
 use mathlib.Core.Option.{Option, none, some}
 use lib.ListN.{length, take, replicate, length-append, length-replicate}
 use lib.Seq.{take_at, take_all}
 use lib.Dec.{eqb}
-use borrow.Author.Tests.{eq-eqb, ne_eqb}
+use borrow.Author.Tests.{ne_eqb}
 use Rattle.model.specs.Lengths as Lengths
 use Rattle.model.specs.Codes as Codes
 use Rattle.model.specs.Statuses as Statuses
@@ -21,25 +21,24 @@ use Rattle.model.specs.Rules.{Rule, immediate, radio}
 use Rattle.model.specs.Rules.{general as is_general}
 use Rattle.model.specs.Tables.{identity_key_rule, link_key_rule, long_term_key_rule}
 use Rattle.model.specs.Immediate.{identity_key_list, link_key_list, long_term_key_list}
-use Rattle.model.specs.Commands.{read_commands, read_indexes, read_version, rule}
-use Rattle.model.specs.Hub.{by_rule, command_out}
+use Rattle.model.specs.Commands.{rule}
+use Rattle.model.specs.Hub.{command_out}
 use Rattle.model.specs.Layout.{decode}
-use Rattle.model.specs.Meanings.{state_ok, laid_out}
+use Rattle.model.specs.Meanings.{state_ok}
 use Rattle.model.proofs.Model.Long.{LongParams, long_refused, same_fits}
 use Rattle.model.specs.Long.{by_list, controller_reason, list_fits, long_reason}
-use Rattle.model.proofs.Model.Tests.{equal, no_way}
+use Rattle.model.proofs.Model.Tests.{no_way}
 use Rattle.model.proofs.Model.WaitingOctets.{bytes_zeros}
 use Rattle.octets.specs.Parts.{write_at}
-use Rattle.layout.specs.Places.{open_at, present_at}
-use Rattle.layout.proofs.Reading.{absent_controller, present_controller, ready}
 use Rattle.replies.specs.Answers.{Gives}
 use Rattle.model.specs.declared.Answer.{Answer}
 use Rattle.model.specs.declared.Answer.TheVariants.{Refused}
 use Rattle.outcomes.specs.Outcomes.{any_command, ended}
 use Rattle.outcomes.proofs.Endings.{ends_refused}
-use Rattle.dispatch.specs.Groups.{controller_codes, general_codes, member}
-use Rattle.dispatch.proofs.Bridge.{codes_to, rule_01, rule_02, rule_03, to_controller}
-use Rattle.dispatch.proofs.Groups.{rule_unknown}
+use Rattle.dispatch.specs.declared.command.ControllerCommand.{ControllerCommand}
+use Rattle.dispatch.specs.declared.command.HubCommand.{HubCommand}
+use Rattle.dispatch.specs.Commands.{controller_code, hub_code}
+use Rattle.dispatch.proofs.Commands.{controller_rule, hub_rule, is_controllers}
 
 -- 1. Lists ------------------------------------------------------------------------------------------------------------------------------------------
 
@@ -66,21 +65,9 @@ fits_none code n o a b c = rw (ne_eqb code Codes.load_link_keys a, by_list, ne_e
 
 -- 2. The status -------------------------------------------------------------------------------------------------------------------------------------
 
--- a code of the first three is that of a command to no controller
-general_rule : (code : ℕ) → member code general_codes ≡ true → (f : PlainHub → Octets) × (rule code ≡ some (is_general f))
-unfolding member general_codes
-general_rule code m = go (eqb code Codes.read_version) (eqb code Codes.read_commands) (eqb code Codes.read_indexes) refl refl refl m
-  where
-    go : (a b c : Bool) → eqb code Codes.read_version ≡ a → eqb code Codes.read_commands ≡ b → eqb code Codes.read_indexes ≡ c → a || (b || (c || false)) ≡ true
-        → (f : PlainHub → Octets) × (rule code ≡ some (is_general f))
-    go true b c ea eb ec m = (read_version, rw (equal code Codes.read_version ea) rule_01)
-    go false true c ea eb ec m = (read_commands, rw (equal code Codes.read_commands eb) rule_02)
-    go false false true ea eb ec m = (read_indexes, rw (equal code Codes.read_indexes ec) rule_03)
-    go false false false ea eb ec m = no_way (sym m)
-
 -- a command to a controller, by its rule
-to_controller_reason : (i : ℕ) (fits : Bool) (x : Option Controller) (u : Option Rule) → to_controller u ≡ true → long_reason i fits x u ≡ controller_reason fits x
-unfolding to_controller long_reason
+to_controller_reason : (i : ℕ) (fits : Bool) (x : Option Controller) (u : Option Rule) → is_controllers u ≡ true → long_reason i fits x u ≡ controller_reason fits x
+unfolding is_controllers long_reason
 to_controller_reason i fits x none t = no_way (sym t)
 to_controller_reason i fits x (some (is_general f)) t = no_way (sym t)
 to_controller_reason i fits x (some (immediate q)) t = refl
@@ -88,9 +75,9 @@ to_controller_reason i fits x (some (radio r)) t = refl
 
 module _ (i code : ℕ) (fits : Bool) (x : Option Controller) where
   -- to no controller, and with that index: the length
-  pub status_length : member code general_codes ≡ true → i ≡ 0xFFFF → Statuses.invalid_parameters ≡ status_of (long_reason i fits x (rule code))
+  pub status_length : (k : HubCommand) → code ≡ hub_code k → i ≡ 0xFFFF → Statuses.invalid_parameters ≡ status_of (long_reason i fits x (rule code))
   unfolding long_reason status_of
-  status_length m e = let g = general_rule code m in rw (g.1, e) refl
+  status_length k ec e = let g = hub_rule k in rw (ec, g.1, e) refl
 
   -- with another index that is the reason
   other_index : (f : PlainHub → Octets) → (i ≡ 0xFFFF → ⊥) → long_reason i fits x (some (is_general f)) ≡ IndexNotNone
@@ -98,31 +85,30 @@ module _ (i code : ℕ) (fits : Bool) (x : Option Controller) where
   other_index f n = rw (ne_eqb i 0xFFFF n, long_reason)
 
   -- with another: the index
-  pub status_index : member code general_codes ≡ true → (i ≡ 0xFFFF → ⊥) → Statuses.invalid_index ≡ status_of (long_reason i fits x (rule code))
+  pub status_index : (k : HubCommand) → code ≡ hub_code k → (i ≡ 0xFFFF → ⊥) → Statuses.invalid_index ≡ status_of (long_reason i fits x (rule code))
   unfolding status_of
-  status_index m n = let g = general_rule code m in rw (g.1, other_index g.0 n) refl
+  status_index k ec n = let g = hub_rule k in rw (ec, g.1, other_index g.0 n) refl
 
   -- to a controller that is there, a list of as many keys as it says: the count
-  pub status_count : member code controller_codes ≡ true → (c : Controller) → x ≡ some c → fits ≡ true → Statuses.no_resources ≡ status_of (long_reason i fits x (rule code))
+  pub status_count : (k : ControllerCommand) → code ≡ controller_code k → (c : Controller) → x ≡ some c → fits ≡ true → Statuses.no_resources ≡ status_of (long_reason i fits x (rule code))
   unfolding controller_reason status_of
-  status_count m c e f = rw (to_controller_reason i fits x (rule code) (codes_to code m), e, f) refl
+  status_count k ec c e f = rw (to_controller_reason i fits x (rule code) (rw ec (controller_rule k)), e, f) refl
 
   -- anything else: the length
-  pub status_wrong : member code controller_codes ≡ true → (c : Controller) → x ≡ some c → fits ≡ false
+  pub status_wrong : (k : ControllerCommand) → code ≡ controller_code k → (c : Controller) → x ≡ some c → fits ≡ false
       → Statuses.invalid_parameters ≡ status_of (long_reason i fits x (rule code))
   unfolding controller_reason status_of
-  status_wrong m c e f = rw (to_controller_reason i fits x (rule code) (codes_to code m), e, f) refl
+  status_wrong k ec c e f = rw (to_controller_reason i fits x (rule code) (rw ec (controller_rule k)), e, f) refl
 
   -- to one that is not there: the index
-  pub status_absent : member code controller_codes ≡ true → x ≡ none → Statuses.invalid_index ≡ status_of (long_reason i fits x (rule code))
+  pub status_absent : (k : ControllerCommand) → code ≡ controller_code k → x ≡ none → Statuses.invalid_index ≡ status_of (long_reason i fits x (rule code))
   unfolding controller_reason status_of
-  status_absent m e = rw (to_controller_reason i fits x (rule code) (codes_to code m), e) refl
+  status_absent k ec e = rw (to_controller_reason i fits x (rule code) (rw ec (controller_rule k)), e) refl
 
   -- a code that is not known
-  pub status_unknown : member code general_codes ≡ false → member code controller_codes ≡ false
-      → Statuses.unknown_command ≡ status_of (long_reason i fits x (rule code))
+  pub status_unknown : rule code ≡ none → Statuses.unknown_command ≡ status_of (long_reason i fits x (rule code))
   unfolding long_reason status_of
-  status_unknown g m = rw (rule_unknown code g m) refl
+  status_unknown e = rw e refl
 
 -- 3. The refusal ------------------------------------------------------------------------------------------------------------------------------------
 

@@ -6,20 +6,19 @@ use mathlib.Core.Bool.{Bool, true, false, not}
 use mathlib.Core.List.{List, [], ◌∷◌, ◌++◌, map}
 use lib.ListN.{length, get_or}
 use lib.Dec.{ltb}
+use Rattle.std.specs.Prelude.{Ok}
 use Rattle.model.specs.declared.Hardware.{Hardware}
 use Rattle.model.specs.declared.Place.{Place}
 use Rattle.model.specs.declared.Place.TheVariants.{AtOctet, Nowhere, Records}
 use Rattle.model.specs.declared.Reason.TheVariants.{BredrNotSupported, CountAbove32, DebugFlagAbove1, LeNotSupported}
 use Rattle.model.specs.Octets.{Octets, octet, same, u16}
-use Rattle.model.specs.Reasons.{Check, further, moved, refused_at, refused_if}
+use Rattle.model.specs.Reasons.{Check, further, moved, refused_at}
 use Rattle.model.specs.State.{bredr_supported, le_supported}
 use Rattle.model.specs.Tables.{first_pair, identity_key_rule, link_key_rule, long_term_key_rule, needs_bredr, needs_le, pair_with, rule_at, table_rules}
 use Rattle.model.specs.Immediate.{KeyList, identity_key_list, link_key_list, list_checks, long_term_key_list, record_checks, records_of, repeat_check}
 use Rattle.model.proofs.Model.Pairs.{pair_if_repeated}
-use Rattle.why.specs.declared.Finding.{Finding}
-use Rattle.why.specs.declared.Finding.TheVariants.{Taken}
-use Rattle.why.specs.Findings.{and_then, checked, first_wrong, in_packet}
-use Rattle.why.proofs.Orders.{packet_append, judged}
+use Rattle.why.specs.Findings.{Finding, and_then, checked, first_wrong, in_packet}
+use Rattle.why.proofs.Orders.{packet_append, then_taken}
 use Rattle.faults.specs.Faults.{list_fault, pair_fault, records_fault}
 
 -- a pair of records is counted from the list's first, wherever the list begins
@@ -74,27 +73,26 @@ list_is l k at f ps head support ea er eh es =
 
 -- link keys, with the debug flag before the count
 pub link_list : (f : Hardware) (ps : Octets) (head support : Finding)
-    → head ≡ and_then Taken (checked (ltb 1 (get_or ps 0 0)) DebugFlagAbove1 (AtOctet 6))
-    → support ≡ and_then Taken (checked (not (bredr_supported f)) BredrNotSupported Nowhere)
+    → head ≡ checked (ltb 1 (get_or ps 0 0)) DebugFlagAbove1 (AtOctet 6)
+    → support ≡ checked (not (bredr_supported f)) BredrNotSupported Nowhere
     → list_fault 1 ps 1 head support ≡ first_wrong (in_packet (list_checks link_key_list f ps (u16 ps 1) (records_of link_key_list ps)))
-unfolding link_key_list rule_at table_rules in_packet moved further octet link_key_rule needs_bredr
+unfolding first_wrong link_key_list rule_at table_rules in_packet moved further octet link_key_rule needs_bredr
 link_list f ps head support eh es =
-    let h = eh ∙ judged ((refused_at 6 (ltb 1 (get_or ps 0 0)) DebugFlagAbove1) ∷ []) in
-    list_is link_key_list 1 1 f ps head support refl refl h (es ∙ judged ((refused_if (not (bredr_supported f)) BredrNotSupported) ∷ []))
+    list_is link_key_list 1 1 f ps head support refl refl (eh ∙ sym (then_taken _)) (es ∙ sym (then_taken _))
 
 -- long term keys
-pub long_term_list : (f : Hardware) (ps : Octets) (support : Finding) → support ≡ and_then Taken (checked (not (le_supported f)) LeNotSupported Nowhere)
-    → list_fault 2 ps 0 Taken support ≡ first_wrong (in_packet (list_checks long_term_key_list f ps (u16 ps 0) (records_of long_term_key_list ps)))
+pub long_term_list : (f : Hardware) (ps : Octets) (support : Finding) → support ≡ checked (not (le_supported f)) LeNotSupported Nowhere
+    → list_fault 2 ps 0 (Ok tt) support ≡ first_wrong (in_packet (list_checks long_term_key_list f ps (u16 ps 0) (records_of long_term_key_list ps)))
 unfolding long_term_key_list rule_at table_rules in_packet moved further first_wrong long_term_key_rule needs_le
 long_term_list f ps support es =
-    list_is long_term_key_list 2 0 f ps Taken support refl refl refl (es ∙ judged ((refused_if (not (le_supported f)) LeNotSupported) ∷ []))
+    list_is long_term_key_list 2 0 f ps (Ok tt) support refl refl refl (es ∙ sym (then_taken _))
 
 -- identity resolving keys
-pub identity_list : (f : Hardware) (ps : Octets) (support : Finding) → support ≡ and_then Taken (checked (not (le_supported f)) LeNotSupported Nowhere)
-    → list_fault 3 ps 0 Taken support ≡ first_wrong (in_packet (list_checks identity_key_list f ps (u16 ps 0) (records_of identity_key_list ps)))
+pub identity_list : (f : Hardware) (ps : Octets) (support : Finding) → support ≡ checked (not (le_supported f)) LeNotSupported Nowhere
+    → list_fault 3 ps 0 (Ok tt) support ≡ first_wrong (in_packet (list_checks identity_key_list f ps (u16 ps 0) (records_of identity_key_list ps)))
 unfolding identity_key_list rule_at table_rules in_packet moved further first_wrong identity_key_rule needs_le
 identity_list f ps support es =
-    list_is identity_key_list 3 0 f ps Taken support refl refl refl (es ∙ judged ((refused_if (not (le_supported f)) LeNotSupported) ∷ []))
+    list_is identity_key_list 3 0 f ps (Ok tt) support refl refl refl (es ∙ sym (then_taken _))
 
 -- the records lie behind the count
 pub list_room : (size at n : ℕ) (ps : Octets) → n ≡ u16 ps at → length ps ≡ at + 2 + size * u16 ps at → at + 2 + size * n ≤ length ps

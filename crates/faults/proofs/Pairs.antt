@@ -2,7 +2,7 @@
 use Prim.Native.Nat.{ℕ, zero, suc, ◌+◌, ◌-◌, ◌*◌, ◌≤◌, ◌<◌}
 use native.Mathlib.Omega.{arith}
 use native.Mathlib.Nat.{mul-suc}
-use mathlib.Core.Path.{◌≡◌, refl, sym, ◌∙◌}
+use mathlib.Core.Path.{◌≡◌, sym, ◌∙◌}
 use mathlib.Core.Bool.{Bool, true, false}
 use mathlib.Core.List.{List, [], ◌∷◌, map}
 use lib.ListN.{length, drop}
@@ -17,7 +17,8 @@ use Rattle.octets.proofs.Parts.{length_part}
 use Rattle.records.specs.declared.Identity.{Identity}
 use Rattle.records.specs.Identities.{identity_of, same_identity}
 use Rattle.records.proofs.Identities.{identity_told}
-use Rattle.records.proofs.Laws.{room, size_least}
+use Rattle.records.proofs.Laws.{size_least}
+use Rattle.faults.proofs.Records.{within}
 
 -- the identities of n records of table k from a place on
 abbrev pub keys : ℕ → Octets → ℕ → ℕ → List Octets
@@ -69,108 +70,65 @@ few k at n end l h = let s = size_least k l in let m = most (rule_at k).size n (
     most size zero l = omega arith
     most size (suc n) l = let i = most size n l in let m = mul-suc size n in omega arith
 
--- before a turn of the outer loop: record a is at a place, and the pair that it and the later ones have is the pair of all
-pub record Outer (k : ℕ) (s : Octets) (from n size : ℕ) (pair : Place) (at a : ℕ) : Type 0 where
-  pub sized : size ≡ (rule_at k).size
-  pub unset : pair ≡ Nowhere
-  pub up_to : a ≤ n
-  pub fits : at + size * (n - a) ≤ length s
-  pub left : first_pair a (keys k s at (n - a)) ≡ first_pair 0 (keys k s from n)
+-- where record a of a list from a place on begins
+abbrev pub begin : (k from a : ℕ) → ℕ
+begin k from a = from + (rule_at k).size * a
 
--- before a turn of the inner loop: record a, and the pair that it has with record b or a later one, or else the later ones have
-pub record Inner (k : ℕ) (s : Octets) (from n size : ℕ) (pair : Place) (at a : ℕ) (mine : Identity) (next b : ℕ) : Type 0 where
-  pub sized : size ≡ (rule_at k).size
-  pub unset : pair ≡ Nowhere
-  pub below : a < n
-  pub up_to : b ≤ n
-  pub fits : at + size + size * (n - (a + 1)) ≤ length s
-  pub room : next + size * (n - b) ≤ length s
-  pub itself : mine ≡ identity_of k (part s at (rule_at k).size)
-  pub left : pair_with a (key_at k s at) b (keys k s next (n - b)) (first_pair (a + 1) (keys k s (at + size) (n - (a + 1)))) ≡ first_pair 0 (keys k s from n)
+-- the next record begins behind it
+next_begin : (k from a : ℕ) → begin k from a + (rule_at k).size ≡ begin k from (a + 1)
+next_begin k from a = omega (arith, mul-suc (rule_at k).size a)
 
-module _ (k : ℕ) (s : Octets) (from n size : ℕ) (pair : Place) (at a : ℕ) where
-  -- record a lies within
-  pub outer_here : Outer k s from n size pair at a → a < n → at + (rule_at k).size ≤ length s
-  outer_here o l = let r = room at size (n - a) (length s) (omega arith) o.fits in rw (← o.sized) (omega arith)
+-- before a turn of the outer loop: the pair that record a and the later ones have is the pair of all
+abbrev pub Outer : (k : ℕ) (s : Octets) (from n a : ℕ) → Type 0
+Outer k s from n a = first_pair a (keys k s (begin k from a) (n - a)) ≡ first_pair 0 (keys k s from n)
+
+-- before a turn of the inner loop: so is the pair that record a has with record b or a later one, or else the later ones have
+abbrev pub Inner : (k : ℕ) (s : Octets) (from n a b : ℕ) → Type 0
+Inner k s from n a b =
+    pair_with a (key_at k s (begin k from a)) b (keys k s (begin k from b) (n - b)) (first_pair (a + 1) (keys k s (begin k from (a + 1)) (n - (a + 1))))
+    ≡ first_pair 0 (keys k s from n)
+
+module _ (k : ℕ) (s : Octets) (from n a : ℕ) where
+  -- record a, and the rest
+  here : a < n → keys k s (begin k from a) (n - a) ≡ key_at k s (begin k from a) ∷ keys k s (begin k from (a + 1)) (n - (a + 1))
+  here l =
+      let e : n - a - 1 ≡ n - (a + 1) = omega arith in
+      rw (← e, ← next_begin k from a) (keys_cons k s (begin k from a) (n - a) (omega arith))
 
   -- the inner loop begins with the record behind record a
-  pub goes_in : (mine : Identity) → Outer k s from n size pair at a → a < n → mine ≡ identity_of k (part s at (rule_at k).size)
-      → Inner k s from n size pair at a mine (at + size) (a + 1)
+  pub goes_in : a < n → Outer k s from n a → Inner k s from n a (a + 1)
   unfolding first_pair
-  goes_in mine o l m =
-      let z : a + 1 ≡ suc a = omega arith in
-      let e : n - a - 1 ≡ n - suc a = omega arith in
-      let f : at + size + size * (n - (a + 1)) ≤ length s = rw (z, ← e) (room at size (n - a) (length s) (omega arith) o.fits) in
-      record {
-        sized = o.sized;
-        unset = o.unset;
-        below = l;
-        up_to = omega arith;
-        fits = f;
-        room = f;
-        itself = m;
-        left = rw (z, o.sized) (rw (keys_cons k s at (n - a) (omega arith), e) at o.left);
-      }
+  goes_in l o = let z : suc a ≡ a + 1 = omega arith in rw (here l, z) at o
 
   -- no record is left: there is no pair
-  pub ends : Outer k s from n size pair at a → n ≤ a → pair ≡ first_pair 0 (keys k s from n)
+  pub ends : n ≤ a → Outer k s from n a → Nowhere ≡ first_pair 0 (keys k s from n)
   unfolding first_pair
-  ends o l = o.unset ∙ rw (keys_end k s at (n - a) (omega arith)) at o.left
+  ends l o = rw (keys_end k s (begin k from a) (n - a) (omega arith)) at o
 
-  module _ (mine : Identity) (next b : ℕ) (i : Inner k s from n size pair at a mine next b) where
-    -- the record at `next` lies within
-    pub inner_here : b < n → next + (rule_at k).size ≤ length s
-    inner_here l = let r = room next size (n - b) (length s) (omega arith) i.room in rw (← i.sized) (omega arith)
+  -- record a is compared with all behind it: on to record a + 1
+  pub goes_out : (b : ℕ) → n ≤ b → Inner k s from n a b → Outer k s from n (a + 1)
+  unfolding pair_with
+  goes_out b l i = rw (keys_end k s (begin k from b) (n - b) (omega arith)) at i
 
-    -- the record at `next`, and the rest
-    step : b < n → keys k s next (n - b) ≡ key_at k s next ∷ keys k s (next + size) (n - (b + 1))
-    step l =
-        let z : n - b - 1 ≡ n - (b + 1) = omega arith in
-        rw (← z, i.sized) (keys_cons k s next (n - b) (omega arith))
+-- one turn of the inner loop: records a and b are compared by their identities
+module _ (k : ℕ) (s : Octets) (from n a b : ℕ) (l : k < 6) (w : bytes s ≡ true) (la : a < n) (lb : b < n) (fits : from + (rule_at k).size * n ≤ length s) where
+  -- what the comparison says, by the model's keys
+  compared : (mine other : Identity) → mine ≡ identity_of k (part s (begin k from a) (rule_at k).size)
+      → other ≡ identity_of k (part s (begin k from b) (rule_at k).size) → (r : Bool) → r ≡ same_identity mine other
+      → same (key_at k s (begin k from a)) (key_at k s (begin k from b)) ≡ r
+  compared mine other m o r e =
+      sym (e ∙ rw (m, o) (told k s (begin k from a) (begin k from b) l w (within (rule_at k).size from a n _ la fits) (within (rule_at k).size from b n _ lb fits)))
 
-    -- what the comparison says, by the model's keys
-    compared : k < 6 → bytes s ≡ true → b < n → (other : Identity) → other ≡ identity_of k (part s next (rule_at k).size) → (r : Bool)
-        → r ≡ same_identity mine other → same (key_at k s at) (key_at k s next) ≡ r
-    compared l w m other o r e =
-        let f : at + (rule_at k).size ≤ length s = rw (← i.sized) (omega (arith, i.fits)) in
-        sym (e ∙ rw (i.itself, o) (told k s at next l w f (inner_here m)))
+  -- two records share an identity: this is the pair
+  pub hits : Inner k s from n a b → (mine other : Identity) → mine ≡ identity_of k (part s (begin k from a) (rule_at k).size)
+      → other ≡ identity_of k (part s (begin k from b) (rule_at k).size) → (r : Bool) → r ≡ same_identity mine other → r ≡ true
+      → Records a b ≡ first_pair 0 (keys k s from n)
+  hits i mine other m o r e t =
+      sym (with_hit a (key_at k s (begin k from a)) b (key_at k s (begin k from b)) _ _ (compared mine other m o r e ∙ t)) ∙ rw (here k s from n b lb) at i
 
-    -- two records share an identity: this is the pair
-    pub hits : k < 6 → bytes s ≡ true → b < n → (other : Identity) → other ≡ identity_of k (part s next (rule_at k).size) → (r : Bool)
-        → r ≡ same_identity mine other → r ≡ true → Records a b ≡ first_pair 0 (keys k s from n)
-    hits l w m other o r e t = sym (with_hit a (key_at k s at) b (key_at k s next) _ _ (compared l w m other o r e ∙ t)) ∙ rw (step m) at i.left
-
-    -- they do not: on to the next
-    pub misses : k < 6 → bytes s ≡ true → b < n → (other : Identity) → other ≡ identity_of k (part s next (rule_at k).size) → (r : Bool)
-        → r ≡ same_identity mine other → r ≡ false → Inner k s from n size pair at a mine (next + size) (b + 1)
-    misses l w m other o r e t =
-        let y : n - b - 1 ≡ n - (b + 1) = omega arith in
-        record {
-          sized = i.sized;
-          unset = i.unset;
-          below = i.below;
-          up_to = omega arith;
-          fits = i.fits;
-          room = rw (← y) (room next size (n - b) (length s) (omega arith) i.room);
-          itself = i.itself;
-          left = sym (with_miss a (key_at k s at) b (key_at k s next) _ _ (compared l w m other o r e ∙ t)) ∙ rw (step m) at i.left;
-        }
-
-    -- record a is compared with all behind it: on to record a + 1
-    pub goes_out : n ≤ b → Outer k s from n size pair (at + size) (a + 1)
-    unfolding pair_with
-    goes_out l =
-        let x : a < n = i.below in
-        record {
-          sized = i.sized;
-          unset = i.unset;
-          up_to = omega arith;
-          fits = i.fits;
-          left = rw (keys_end k s next (n - b) (omega arith)) at i.left;
-        }
-
--- the first turn
-pub first_turn : (k : ℕ) (s : Octets) (from n size : ℕ) → size ≡ (rule_at k).size → from + (rule_at k).size * n ≤ length s → Outer k s from n size Nowhere from 0
-first_turn k s from n size e l =
-    let z : n - 0 ≡ n = omega arith in
-    record { sized = e; unset = refl; up_to = omega arith; fits = rw (z, e) l; left = rw z }
+  -- they do not: on to the next
+  pub misses : Inner k s from n a b → (mine other : Identity) → mine ≡ identity_of k (part s (begin k from a) (rule_at k).size)
+      → other ≡ identity_of k (part s (begin k from b) (rule_at k).size) → (r : Bool) → r ≡ same_identity mine other → r ≡ false
+      → Inner k s from n a (b + 1)
+  misses i mine other m o r e t =
+      sym (with_miss a (key_at k s (begin k from a)) b (key_at k s (begin k from b)) _ _ (compared mine other m o r e ∙ t)) ∙ rw (here k s from n b lb) at i

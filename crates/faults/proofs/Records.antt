@@ -1,10 +1,13 @@
 -- The records of a key list where they lie in the parameters: their checks, over the octets there, and the step from record to record.
 use Prim.Native.Nat.{ℕ, zero, suc, ◌+◌, ◌-◌, ◌*◌, ◌≤◌, ◌<◌}
 use native.Mathlib.Omega.{arith}
-use mathlib.Core.Path.{◌≡◌, refl, sym, ◌∙◌}
-use mathlib.Core.Bool.{Bool, true, false, ◌&&◌, ◌||◌, not}
+use native.Mathlib.Nat.{mul-suc}
+use Rattle.std.proofs.Math.Nat.{mul-le-mul_left}
+use Rattle.std.specs.Prelude.{Ok}
+use mathlib.Core.Path.{◌≡◌, sym, ◌∙◌}
+use mathlib.Core.Bool.{Bool, ◌&&◌, ◌||◌, not}
 use mathlib.Core.List.{[], ◌∷◌}
-use lib.ListN.{length, get_or}
+use lib.ListN.{get_or}
 use lib.Seq.{drop-drop}
 use lib.Dec.{eqb, ltb}
 use Rattle.model.specs.Octets.{Octets, octet}
@@ -16,15 +19,11 @@ use Rattle.model.specs.State.{static_random}
 use Rattle.model.specs.Reasons.{Check, further, in_record, moved}
 use Rattle.model.specs.Tables.{chop, identity_key_rule, le_address_checks, link_key_rule, long_term_key_rule, rule_at}
 use Rattle.model.specs.Immediate.{record_checks}
-use Rattle.model.proofs.Model.Tests.{no_way}
 use Rattle.octets.specs.Parts.{part}
 use Rattle.octets.proofs.Parts.{get_d_part}
 use Rattle.rules.proofs.Addresses.{static_of}
-use Rattle.records.proofs.Laws.{room}
-use Rattle.why.specs.declared.Finding.{Finding}
-use Rattle.why.specs.declared.Finding.TheVariants.{Busy, Taken, Wrong}
-use Rattle.why.specs.Findings.{and_then, first_wrong, in_packet, is_taken}
-use Rattle.why.proofs.Orders.{packet_append, moved_append}
+use Rattle.why.specs.Findings.{and_then, first_wrong, in_packet}
+use Rattle.why.proofs.Orders.{check_steps, packet_append, moved_append}
 use Rattle.faults.specs.Faults.{address_fault, record_fault, records_fault}
 
 -- 1. One record -----------------------------------------------------------------------------------------------------------------------------
@@ -95,57 +94,30 @@ records_cons k ps at j (suc n) l =
     let z : j + 1 ≡ suc j = omega arith in
     rw (e, z, packet_append (moved (in_record j at) ((rule_at k).checks (part ps at (rule_at k).size))), drop-drop (rule_at k).size at ps)
 
--- before a turn of the loop: record j is at a place, so many are left, and what is wrong in them is what is wrong in all
-pub record Walk (k : ℕ) (ps : Octets) (from n size at left j : ℕ) : Type 0 where
-  pub sized : size ≡ (rule_at k).size
-  pub up_to : j + left ≡ n
-  pub fits : at + size * left ≤ length ps
-  pub rest : records_fault k ps at j left ≡ records_fault k ps from 0 n
+-- before a turn of the loop: what is wrong from record j on is what is wrong in all
+abbrev pub Rest : (k : ℕ) (ps : Octets) (from n j : ℕ) → Type 0
+Rest k ps from n j = records_fault k ps (from + (rule_at k).size * j) j (n - j) ≡ records_fault k ps from 0 n
 
--- the first turn
-pub walk_first : (k : ℕ) (ps : Octets) (from n size : ℕ) → size ≡ (rule_at k).size → from + (rule_at k).size * n ≤ length ps → Walk k ps from n size from n 0
-walk_first k ps from n size e l = record { sized = e; up_to = omega arith; fits = rw e l; rest = refl }
+-- record j of n lies within
+pub within : (size from j n end : ℕ) → j < n → from + size * n ≤ end → from + size * j + size ≤ end
+within size from j n end l h =
+    let m : size * suc j ≤ size * n = mul-le-mul_left size (omega arith) in
+    omega (arith, mul-suc size j)
 
--- something that is wrong is the first
-stays_wrong : (f g : Finding) → is_taken f ≡ false → and_then f g ≡ f
-unfolding is_taken and_then
-stays_wrong Taken g e = no_way e
-stays_wrong Busy g e = refl
-stays_wrong (Wrong c p) g e = refl
-
--- nothing is wrong: the rest tells
-goes_on_lem : (f g : Finding) → is_taken f ≡ true → and_then f g ≡ g
-unfolding is_taken and_then
-goes_on_lem Taken g e = refl
-goes_on_lem Busy g e = no_way (sym e)
-goes_on_lem (Wrong c p) g e = no_way (sym e)
-
-module _ (k : ℕ) (ps : Octets) (from n size at left j : ℕ) (w : Walk k ps from n size at left j) where
+module _ (k : ℕ) (ps : Octets) (from n j : ℕ) where
   -- no record is left
-  pub walk_ends : left ≤ 0 → Taken ≡ records_fault k ps from 0 n
+  pub rest_ends : n ≤ j → Rest k ps from n j → Ok tt ≡ records_fault k ps from 0 n
   unfolding records_fault chop record_checks in_packet moved first_wrong
-  walk_ends l = let e : left ≡ 0 = omega arith in rw e at w.rest
+  rest_ends l r = let e : n - j ≡ 0 = omega arith in rw e at r
 
-  -- record j lies within
-  pub walk_here : 0 < left → at + (rule_at k).size ≤ length ps
-  walk_here l = let r = room at size left (length ps) l w.fits in rw (← w.sized) (omega arith)
+  -- record j, and the rest
+  pub rest_goes : j < n → Rest k ps from n j
+      → and_then (record_fault (rule_at k) ps (from + (rule_at k).size * j) j) (records_fault k ps (from + (rule_at k).size * (j + 1)) (j + 1) (n - (j + 1)))
+      ≡ records_fault k ps from 0 n
+  rest_goes l r =
+      let e : n - j - 1 ≡ n - (j + 1) = omega arith in
+      let p : from + (rule_at k).size * j + (rule_at k).size ≡ from + (rule_at k).size * (j + 1) = omega (arith, mul-suc (rule_at k).size j) in
+      rw (← e, ← p) (sym (records_cons k ps (from + (rule_at k).size * j) j (n - j) (omega arith)) ∙ r)
 
-  module _ (l : 0 < left) (f : Finding) (ef : f ≡ record_fault (rule_at k) ps at j) (b : Bool) (eb : b ≡ is_taken f) where
-    -- the record and the rest
-    both_parts : and_then f (records_fault k ps (at + (rule_at k).size) (j + 1) (left - 1)) ≡ records_fault k ps from 0 n
-    both_parts = rw ef (sym (records_cons k ps at j left l) ∙ w.rest)
-
-    -- it is wrong: found
-    pub walk_stops : b ≡ false → f ≡ records_fault k ps from 0 n
-    walk_stops t = sym (stays_wrong f _ (sym eb ∙ t)) ∙ both_parts
-
-    -- it is fine: on to the next
-    pub walk_goes : b ≡ true → Walk k ps from n size (at + size) (left - 1) (j + 1)
-    walk_goes t =
-        let u = w.up_to in
-        record {
-          sized = w.sized;
-          up_to = omega arith;
-          fits = room at size left (length ps) l w.fits;
-          rest = rw w.sized (sym (goes_on_lem f _ (sym eb ∙ t)) ∙ both_parts);
-        }
+-- the checks of a record, made one after the other
+pub ruleset steps = (check_steps, link_is, address_is, long_term_is)

@@ -9,8 +9,7 @@ use Rattle.model.specs.Tables.{TableRule, chop, first_pair, le_address_checks, r
 use Rattle.model.specs.Immediate.{record_checks}
 use Rattle.model.specs.Tables.{nowhere}
 use Rattle.octets.specs.Parts.{part}
-use Rattle.why.specs.declared.Finding.{Finding}
-use Rattle.why.specs.Findings.{and_then, checked, first_wrong, in_packet}
+use Rattle.why.specs.Findings.{Finding, and_then, checked, first_wrong, in_packet}
 
 -- record j of a list, at a place of the parameters
 unfoldable pub record_fault : TableRule → Octets → ℕ → ℕ → Finding

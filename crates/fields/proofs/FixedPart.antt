@@ -1,8 +1,9 @@
 -- How far the fixed part of a controller at a place of an image is read: its fields one after the other, up to the first that is not whole or not right.
+use Rattle.std.specs.Prelude.{Result}
 use Prim.Native.Nat.{ℕ, ◌+◌, ◌-◌, ◌≤◌, ◌<◌}
 use native.Mathlib.Omega.{arith}
 use mathlib.Core.Path.{◌≡◌, refl, sym, subst, ◌∙◌}
-use mathlib.Core.Bool.{Bool, true, false, not}
+use mathlib.Core.Bool.{Bool, true, false}
 use mathlib.Core.Option.{some}
 use mathlib.Core.List.{◌++◌}
 use lib.ListN.{length, drop, take, get_or, length-drop}
@@ -11,18 +12,17 @@ use lib.Dec.{leb}
 use Rattle.model.specs.declared.Hardware.{Hardware}
 use Rattle.model.specs.declared.ImageFault.{ImageFault}
 use Rattle.model.specs.declared.ImageFault.TheVariants.{BadField, BadIndex, BadLength}
-use Rattle.model.specs.declared.Reached.{Reached}
-use Rattle.model.specs.declared.Reached.TheVariants.{Fault}
 use Rattle.model.specs.declared.Version.{Version}
 use Rattle.model.specs.Octets.{Octets, number, octet}
 use Rattle.model.specs.State.{hardware_ok}
 use Rattle.model.specs.Image.{static_fits}
 use Rattle.model.specs.Reading.{Fixed, Reader, Reading, ◌>>=◌, field, fixed_by, fixed_part}
 use Rattle.model.specs.Reading.{flags_right, free, give, go_on, hardware_by, index_right, name_field, not_whole}
-use Rattle.model.proofs.Model.Tests.{either, not-false, not-true}
+use Rattle.model.proofs.Model.Tests.{either}
 use Rattle.octets.specs.Parts.{part}
 use Rattle.fields.specs.Places.{flags_in, hardware_in, static_in}
-use Rattle.fields.specs.Reads.{Reads, fault_of}
+use Rattle.fields.specs.declared.FaultAt.{FaultAt}
+use Rattle.fields.specs.Reads.{Reads, fault_of, told}
 use Rattle.fields.proofs.Places.{first_of}
 use Rattle.fields.proofs.Reach.{reads_two, short_at, short_begins, short_then, wrong_at}
 use Rattle.fields.proofs.Says.{field_past}
@@ -75,7 +75,7 @@ past n k ok f image at p q h e t =
 
 -- a field that is whole and wrong, by the places of the fixed part
 stops : {B : Type 0} (n : ℕ) (k : ImageFault) (ok : Octets → Bool) (f : Octets → Reader B) (image : Octets) (at p q : ℕ) → at + q ≤ length image → p + n ≡ q
-    → ok (part (drop at image) p n) ≡ false → Reads image ((field n k ok >>= f) (drop (at + p) image)) (Fault k (at + p))
+    → ok (part (drop at image) p n) ≡ false → Reads image ((field n k ok >>= f) (drop (at + p) image)) (told k (at + p))
 unfolding part ◌>>=◌
 stops n k ok f image at p q h e t =
     let u : ok (part image (at + p) n) ≡ false = rw (← drop-drop p at image) t in
@@ -83,7 +83,7 @@ stops n k ok f image at p q h e t =
 
 -- a field that is not whole
 ends : {B : Type 0} (n : ℕ) (k : ImageFault) (ok : Octets → Bool) (f : Octets → Reader B) (image : Octets) (p : ℕ) → p ≤ length image → length image < p + n
-    → Reads image ((field n k ok >>= f) (drop p image)) (Fault BadLength (length image))
+    → Reads image ((field n k ok >>= f) (drop p image)) (told BadLength (length image))
 unfolding ◌>>=◌
 ends n k ok f image p h l = short_at n k ok f image p l h
 
@@ -125,7 +125,7 @@ pub record StaticPast (v : Version) (low : ℕ) (image : Octets) (at : ℕ) : Ty
   pub static : static_fits (hardware_in (drop at image)) (static_in (drop at image)) ≡ true
 
 -- what is read alike is reached alike
-alike : {A : Type 0} (image : Octets) (x y : Reading A) (r : Reached) → x ≡ y → Reads image y r → Reads image x r
+alike : {A : Type 0} (image : Octets) (x y : Reading A) (r : Result ℕ FaultAt) → x ≡ y → Reads image y r → Reads image x r
 alike image x y r e h = subst (λ (z : Reading _). Reads image z r) (sym e) h
 
 module _ (v : Version) (low : ℕ) (image : Octets) (at : ℕ) where
@@ -191,83 +191,83 @@ module _ (v : Version) (low : ℕ) (image : Octets) (at : ℕ) where
   -- 5. THE WAYS OUT OF THE FIXED PART -----------------------------------------------------------------------------------------------------------
 
   -- no octet of it
-  pub index_short : at ≤ length image → length image - at < 1 → Reads image (fixed_part v low (drop at image)) (Fault BadLength (length image))
-  index_short l s = alike image _ _ (Fault BadLength (length image)) (by_index v low (drop at image)) (ends 1 BadIndex _ _ image at l (omega arith))
+  pub index_short : at ≤ length image → length image - at < 1 → Reads image (fixed_part v low (drop at image)) (told BadLength (length image))
+  index_short l s = alike image _ _ (told BadLength (length image)) (by_index v low (drop at image)) (ends 1 BadIndex _ _ image at l (omega arith))
 
   -- a wrong index
-  pub index_wrong : (w : ℕ) (b : Bool) → w ≡ get_or image at 0 → b ≡ index_right low w → not b ≡ true → at + 1 ≤ length image
-      → Reads image (fixed_part v low (drop at image)) (Fault BadIndex at)
+  pub index_wrong : (w : ℕ) (b : Bool) → w ≡ get_or image at 0 → b ≡ index_right low w → b ≡ false → at + 1 ≤ length image
+      → Reads image (fixed_part v low (drop at image)) (told BadIndex at)
   unfolding octet part ◌>>=◌
   index_wrong w b e q h l =
-      let u : index_right low (get_or (take 1 (drop at image)) 0 0) ≡ false = rw (first_of image at) (told_index w b false e q (not-true b h)) in
-      alike image _ _ (Fault BadIndex at) (by_index v low (drop at image))
+      let u : index_right low (get_or (take 1 (drop at image)) 0 0) ≡ false = rw (first_of image at) (told_index w b false e q h) in
+      alike image _ _ (told BadIndex at) (by_index v low (drop at image))
       (wrong_at 1 BadIndex (λ x. index_right low (octet x 0)) (from_address v) image at l u)
 
   -- a right one
-  pub index_good : (w : ℕ) (b : Bool) → w ≡ get_or image at 0 → b ≡ index_right low w → not b ≡ false → IndexPast v low image at
-  index_good w b e q h = record { index = told_index w b true e q (not-false b h) }
+  pub index_good : (w : ℕ) (b : Bool) → w ≡ get_or image at 0 → b ≡ index_right low w → b ≡ true → IndexPast v low image at
+  index_good w b e q h = record { index = told_index w b true e q h }
 
   -- the supported settings not whole, or what is before them
   pub hardware_short : IndexPast v low image at → at + 1 ≤ length image → length image - at < 14
-      → Reads image (fixed_part v low (drop at image)) (Fault BadLength (length image))
+      → Reads image (fixed_part v low (drop at image)) (told BadLength (length image))
   hardware_short c l s =
-      alike image _ _ (Fault BadLength (length image)) (past_index c l)
+      alike image _ _ (told BadLength (length image)) (past_index c l)
       (short_begins image _ (ends_early v (part image at 1) (drop (at + 1) image) (omega (arith, length-drop (at + 1) image))))
 
   -- wrong ones
-  pub hardware_wrong : (f : Hardware) (b : Bool) → IndexPast v low image at → f ≡ hardware_in (drop at image) → b ≡ hardware_ok f → not b ≡ true
+  pub hardware_wrong : (f : Hardware) (b : Bool) → IndexPast v low image at → f ≡ hardware_in (drop at image) → b ≡ hardware_ok f → b ≡ false
       → at + 14 ≤ length image
-      → Reads image (fixed_part v low (drop at image)) (Fault BadField (at + 10))
+      → Reads image (fixed_part v low (drop at image)) (told BadField (at + 10))
   unfolding from_supported hardware_in
   hardware_wrong f b c e q h l =
-      alike image _ _ (Fault BadField (at + 10)) (at_supported c (omega arith))
-      (stops 4 BadField _ _ image at 10 14 l refl (told_hardware f b false e q (not-true b h)))
+      alike image _ _ (told BadField (at + 10)) (at_supported c (omega arith))
+      (stops 4 BadField _ _ image at 10 14 l refl (told_hardware f b false e q h))
 
   -- right ones
-  pub hardware_good : (f : Hardware) (b : Bool) → IndexPast v low image at → f ≡ hardware_in (drop at image) → b ≡ hardware_ok f → not b ≡ false
+  pub hardware_good : (f : Hardware) (b : Bool) → IndexPast v low image at → f ≡ hardware_in (drop at image) → b ≡ hardware_ok f → b ≡ true
       → HardwarePast v low image at
-  hardware_good f b c e q h = record { before = c; hardware = told_hardware f b true e q (not-false b h) }
+  hardware_good f b c e q h = record { before = c; hardware = told_hardware f b true e q h }
 
   -- the flags not whole
   pub flags_short : HardwarePast v low image at → at + 14 ≤ length image → length image - at < 18
-      → Reads image (fixed_part v low (drop at image)) (Fault BadLength (length image))
+      → Reads image (fixed_part v low (drop at image)) (told BadLength (length image))
   unfolding from_flags
-  flags_short c l s = alike image _ _ (Fault BadLength (length image)) (past_hardware c l) (ends 4 BadField _ _ image (at + 14) l (omega arith))
+  flags_short c l s = alike image _ _ (told BadLength (length image)) (past_hardware c l) (ends 4 BadField _ _ image (at + 14) l (omega arith))
 
   -- wrong flags
   pub flags_wrong : (f : Hardware) (n : ℕ) (b : Bool) → HardwarePast v low image at → f ≡ hardware_in (drop at image) → n ≡ number 0 (part image (at + 14) 4)
-      → b ≡ flags_right v f n → not b ≡ true → at + 18 ≤ length image → Reads image (fixed_part v low (drop at image)) (Fault BadField (at + 14))
+      → b ≡ flags_right v f n → b ≡ false → at + 18 ≤ length image → Reads image (fixed_part v low (drop at image)) (told BadField (at + 14))
   unfolding from_flags flags_in
   flags_wrong f n b c e d q h l =
-      alike image _ _ (Fault BadField (at + 14)) (past_hardware c (omega arith))
-      (stops 4 BadField _ _ image at 14 18 l refl (told_flags f n b false e d q (not-true b h)))
+      alike image _ _ (told BadField (at + 14)) (past_hardware c (omega arith))
+      (stops 4 BadField _ _ image at 14 18 l refl (told_flags f n b false e d q h))
 
   -- right flags
   pub flags_good : (f : Hardware) (n : ℕ) (b : Bool) → HardwarePast v low image at → f ≡ hardware_in (drop at image) → n ≡ number 0 (part image (at + 14) 4)
-      → b ≡ flags_right v f n → not b ≡ false → FlagsPast v low image at
-  flags_good f n b c e d q h = record { before = c; flags = told_flags f n b true e d q (not-false b h) }
+      → b ≡ flags_right v f n → b ≡ true → FlagsPast v low image at
+  flags_good f n b c e d q h = record { before = c; flags = told_flags f n b true e d q h }
 
   -- the static address not whole
   pub static_short : FlagsPast v low image at → at + 18 ≤ length image → length image - at < 24
-      → Reads image (fixed_part v low (drop at image)) (Fault BadLength (length image))
+      → Reads image (fixed_part v low (drop at image)) (told BadLength (length image))
   unfolding from_static
-  static_short c l s = alike image _ _ (Fault BadLength (length image)) (past_flags c l) (ends 6 BadField _ _ image (at + 18) l (omega arith))
+  static_short c l s = alike image _ _ (told BadLength (length image)) (past_flags c l) (ends 6 BadField _ _ image (at + 18) l (omega arith))
 
   -- a wrong one
   pub static_wrong : (f : Hardware) (s : Octets) (b : Bool) → FlagsPast v low image at → f ≡ hardware_in (drop at image) → s ≡ part image (at + 18) 6
-      → b ≡ static_fits f s → not b ≡ true → at + 24 ≤ length image → Reads image (fixed_part v low (drop at image)) (Fault BadField (at + 18))
+      → b ≡ static_fits f s → b ≡ false → at + 24 ≤ length image → Reads image (fixed_part v low (drop at image)) (told BadField (at + 18))
   unfolding from_static static_in
   static_wrong f s b c e d q h l =
-      alike image _ _ (Fault BadField (at + 18)) (past_flags c (omega arith))
-      (stops 6 BadField _ _ image at 18 24 l refl (told_static f s b false e d q (not-true b h)))
+      alike image _ _ (told BadField (at + 18)) (past_flags c (omega arith))
+      (stops 6 BadField _ _ image at 18 24 l refl (told_static f s b false e d q h))
 
   -- a right one
   pub static_good : (f : Hardware) (s : Octets) (b : Bool) → FlagsPast v low image at → f ≡ hardware_in (drop at image) → s ≡ part image (at + 18) 6
-      → b ≡ static_fits f s → not b ≡ false → StaticPast v low image at
-  static_good f s b c e d q h = record { before = c; static = told_static f s b true e d q (not-false b h) }
+      → b ≡ static_fits f s → b ≡ true → StaticPast v low image at
+  static_good f s b c e d q h = record { before = c; static = told_static f s b true e d q h }
 
   -- all right but for the names: these tell
-  pub names_tell : (r : Reached) → StaticPast v low image at → at + 24 ≤ length image
+  pub names_tell : (r : Result ℕ FaultAt) → StaticPast v low image at → at + 24 ≤ length image
       → Reads image (go_on (name_field v 249 (drop (at + 24) image)) (λ n. name_field v 11)) r → Reads image (fixed_part v low (drop at image)) r
   unfolding from_names ◌>>=◌
   names_tell r c l e =

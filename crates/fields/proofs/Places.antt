@@ -1,6 +1,5 @@
 -- The fixed part of a controller by places of the image: what is read there is what the contracts say of the octets from its index on.
-use Prim.Native.Nat.{ℕ, ◌+◌, ◌/◌, ◌%◌, ◌≤◌, ◌<◌}
-use native.Mathlib.Omega.{arith}
+use Prim.Native.Nat.{ℕ, ◌+◌, ◌/◌, ◌%◌}
 use native.Mathlib.Nat.{add-zero}
 use mathlib.Core.Path.{◌≡◌, ap, ◌∙◌}
 use mathlib.Core.Bool.{false}
@@ -10,10 +9,9 @@ use lib.Dec.{eqb, lit<}
 use Rattle.model.specs.declared.Hardware.{Hardware}
 use Rattle.model.specs.declared.Settings.{Settings}
 use Rattle.model.specs.declared.Version.{Version}
-use Rattle.model.specs.declared.Version.TheVariants.{One, Two}
 use Rattle.model.specs.Octets.{Octets, bit, number, octet}
-use Rattle.model.specs.State.{bredr_supported, no_timer}
-use Rattle.model.specs.Image.{bredr_read, name_size}
+use Rattle.model.specs.State.{no_timer}
+use Rattle.model.specs.Image.{bredr_read}
 use Rattle.model.specs.Reading.{fixed_by, hardware_by}
 use Rattle.octets.specs.Parts.{part}
 use Rattle.fields.specs.Places.{fixed_in, flags_in, hardware_in, settings_in, static_in}
@@ -40,27 +38,6 @@ pub hardware_from_lem : (image : Octets) (at : ℕ) → hardware_from image at �
 unfolding hardware_from hardware_in hardware_by part octet
 hardware_from_lem image at =
     rw (drop-drop 1 at image, drop-drop 8 at image, drop-drop 10 at image, drop-drop 7 at image, first_of image (at + 7))
-
--- BR/EDR by the flags: of version 1 by what is supported, of version 2 by bit 7
-pub bredr_one : (v : Version) (f : Hardware) (flags : ℕ) → v ≡ One → bredr_supported f ≡ bredr_read v f flags
-unfolding bredr_read
-bredr_one v f flags e = rw e
-
--- in version 2
-pub bredr_two : (v : Version) (f : Hardware) (flags : ℕ) → v ≡ Two → eqb (flags / 128 % 2) 1 ≡ bredr_read v f flags
-unfolding bredr_read bit
-bredr_two v f flags e = rw e
-
--- how long a name's field is
-pub size_one : (v : Version) (room : ℕ) (o : Octets) → v ≡ One → (room ≡ name_size v room o) × (room ≤ room + 256)
-unfolding name_size
-size_one v room o e = (rw e, omega arith)
-
--- in version 2
-pub size_two : (v : Version) (room at : ℕ) (image : Octets) → v ≡ Two → get_or image at 0 < 256
-    → (get_or image at 0 + 1 ≡ name_size v room (drop at image)) × (get_or image at 0 + 1 ≤ room + 256)
-unfolding name_size octet
-size_two v room at image e h = (rw (e, name_size, at_first image at) (omega arith), omega arith)
 
 -- the settings, by hardware and places of the image
 unfoldable pub settings_from : Version → Hardware → Octets → ℕ → Settings

@@ -1,4 +1,6 @@
 -- How far fields of an image are read: up to the first that is not whole or not right.
+use Rattle.std.specs.Prelude.{IsErrAnd, Result, Ok, Err}
+use Rattle.std.proofs.lemmas.Result.{err_from_is_err_and}
 use Prim.Native.Nat.{ℕ, ◌+◌, ◌-◌, ◌≤◌, ◌<◌}
 use native.Mathlib.Omega.{arith}
 use mathlib.Core.Path.{◌≡◌, refl, sym, ap, subst, ◌∙◌}
@@ -9,8 +11,6 @@ use lib.Seq.{drop-drop}
 use borrow.Author.Tests.{lt-leb}
 use Rattle.model.specs.declared.ImageFault.{ImageFault}
 use Rattle.model.specs.declared.ImageFault.TheVariants.{BadField, BadLength}
-use Rattle.model.specs.declared.Reached.{Reached}
-use Rattle.model.specs.declared.Reached.TheVariants.{To, Fault}
 use Rattle.model.specs.declared.Version.{Version}
 use Rattle.model.specs.Octets.{Octets}
 use Rattle.model.specs.Image.{name_read, name_right, name_size}
@@ -19,9 +19,16 @@ use Rattle.model.specs.Reading.{Reader, Reading, ◌>>=◌, fault_at, field, giv
 use Rattle.model.proofs.Model.Fields.{both_right, leb_of}
 use Rattle.octets.specs.Parts.{part}
 use Rattle.fields.specs.Places.{fixed_end, short_place}
-use Rattle.fields.specs.Reads.{Begins, Reads, fault_of}
+use Rattle.fields.specs.declared.FaultAt.{FaultAt}
+use Rattle.fields.specs.Reads.{Begins, Reads, fault_of, told}
 use Rattle.fields.proofs.Checks.{size_some}
 use Rattle.fields.proofs.Says.{field_past}
+
+-- 0. A fault that is handed on --------------------------------------------------------------------------------------------------------------
+
+-- what `?` hands on is what was found
+pub handed_on : {A : Type 0} (P : Result A FaultAt → Type 0) (r : Result A FaultAt) (x y : FaultAt) → IsErrAnd r (λ e. e ≡ x) → x ≡ y → P (Err y) → P r
+handed_on P r x y h e g = let p = err_from_is_err_and r h in rw (p.1, p.2, e) g
 
 -- 1. One reader after another -----------------------------------------------------------------------------------------------------------------
 
@@ -40,12 +47,12 @@ first_fault_lem (wrong x a o) f y e = spoilt_fault x (f a o) ∙ e
 first_fault_lem (short x) f y e = e
 
 -- where the first reader has a fault, that is the fault of both
-pub reads_stop : {A B : Type 0} (image : Octets) (r : Reading A) (f : A → Reader B) (k : ImageFault) (p : ℕ) → Reads image r (Fault k p)
-    → Reads image (go_on r f) (Fault k p)
-reads_stop image r f k p (y, e, s, l) = (y, first_fault_lem r f y e, s, l)
+pub reads_stop : {A B : Type 0} (image : Octets) (r : Reading A) (f : A → Reader B) (x : FaultAt) → Reads image r (Err x)
+    → Reads image (go_on r f) (Err x)
+reads_stop image r f x (y, e, s, l) = (y, first_fault_lem r f y e, s, l)
 
 -- where the first reader comes to a place, the second goes on from there
-pub reads_on : {A B : Type 0} (image : Octets) (m : Reading A) (f : A → Reader B) (p : ℕ) (r : Reached) → Reads image m (To p)
+pub reads_on : {A B : Type 0} (image : Octets) (m : Reading A) (f : A → Reader B) (p : ℕ) (r : Result ℕ FaultAt) → Reads image m (Ok p)
     → ((a : A) → Reads image (f a (drop p image)) r)
     → Reads image (go_on m f) r
 unfolding go_on
@@ -69,10 +76,10 @@ two_right {A} {B} {C} m f g b o e = let h = both_right m (λ a. f) b o e in on h
     on a x u z = (g a b, rw (u, z))
 
 -- how far two readers come, whatever is made of what they read
-pub reads_two : {A B C : Type 0} (image : Octets) (m : Reading A) (f : Reader B) (g : A → B → C) (r : Reached) → Reads image (go_on m (λ a. f)) r
+pub reads_two : {A B C : Type 0} (image : Octets) (m : Reading A) (f : Reader B) (g : A → B → C) (r : Result ℕ FaultAt) → Reads image (go_on m (λ a. f)) r
     → Reads image (go_on m (λ a. f >>= (λ b. give (g a b)))) r
-reads_two image m f g (To p) (l, b, e) = let h = two_right m f g b (drop p image) e in (l, h.0, h.1)
-reads_two image m f g (Fault k p) (y, e, s, l) = (y, two_fault m f g y e, s, l)
+reads_two image m f g (Ok p) (l, b, e) = let h = two_right m f g b (drop p image) e in (l, h.0, h.1)
+reads_two image m f g (Err x) (y, e, s, l) = (y, two_fault m f g y e, s, l)
 
 -- 2. Fields at their places -------------------------------------------------------------------------------------------------------------------
 
@@ -107,7 +114,7 @@ wrong_begins image x k p h e = (fault_at k (drop p image), e, refl, omega (arith
 -- a field at a place is not whole
 pub short_at : {B : Type 0} (n : ℕ) (k : ImageFault) (ok : Octets → Bool) (f : Octets → Reader B) (image : Octets) (p : ℕ) → length image < p + n
     → p ≤ length image
-    → Reads image (go_on (field n k ok (drop p image)) f) (Fault BadLength (length image))
+    → Reads image (go_on (field n k ok (drop p image)) f) (told BadLength (length image))
 unfolding fault_of
 short_at n k ok f image p h l =
     let e : length (drop p image) < n = omega (arith, length-drop p image) in
@@ -116,7 +123,7 @@ short_at n k ok f image p h l =
 -- a field at a place is whole and wrong
 pub wrong_at : {B : Type 0} (n : ℕ) (k : ImageFault) (ok : Octets → Bool) (f : Octets → Reader B) (image : Octets) (p : ℕ) → p + n ≤ length image
     → ok (part image p n) ≡ false
-    → Reads image (go_on (field n k ok (drop p image)) f) (Fault k p)
+    → Reads image (go_on (field n k ok (drop p image)) f) (told k p)
 unfolding part fault_of
 wrong_at n k ok f image p h e =
     let l : n ≤ length (drop p image) = omega (arith, length-drop p image) in
@@ -127,20 +134,20 @@ wrong_at n k ok f image p h e =
 
 -- a name's field is not whole
 pub name_short : (v : Version) (room : ℕ) (image : Octets) (at size : ℕ) → at ≤ length image → size ≡ name_size v room (drop at image) → length image - at < size
-    → Reads image (name_field v room (drop at image)) (Fault BadLength (length image))
+    → Reads image (name_field v room (drop at image)) (told BadLength (length image))
 unfolding name_field
 name_short v room image at size h e l =
     short_at (name_size v room (drop at image)) BadField (name_right v room) (λ x. give (name_read v room x)) image at (omega arith) h
 
 -- no octet of it is there
 pub name_none : (v : Version) (room : ℕ) (image : Octets) (at : ℕ) → 0 < room → at ≤ length image → length image ≤ at
-    → Reads image (name_field v room (drop at image)) (Fault BadLength (length image))
+    → Reads image (name_field v room (drop at image)) (told BadLength (length image))
 name_none v room image at r h l = name_short v room image at (name_size v room (drop at image)) h refl (omega (arith, size_some v room (drop at image) r))
 
 -- it is whole and wrong
 pub name_wrong : (v : Version) (room : ℕ) (image : Octets) (at size : ℕ) (b : Bool) → at ≤ length image → size ≡ name_size v room (drop at image)
     → size ≤ length image - at
-    → b ≡ name_right v room (part image at (name_size v room (drop at image))) → b ≡ false → Reads image (name_field v room (drop at image)) (Fault BadField at)
+    → b ≡ name_right v room (part image at (name_size v room (drop at image))) → b ≡ false → Reads image (name_field v room (drop at image)) (told BadField at)
 unfolding name_field
 name_wrong v room image at size b h e l q t =
     wrong_at (name_size v room (drop at image)) BadField (name_right v room) (λ x. give (name_read v room x)) image at (omega arith) (sym q ∙ t)
@@ -148,33 +155,13 @@ name_wrong v room image at size b h e l q t =
 -- it is whole and right
 pub name_good : (v : Version) (room : ℕ) (image : Octets) (at size : ℕ) (b : Bool) → at ≤ length image → size ≡ name_size v room (drop at image)
     → size ≤ length image - at
-    → b ≡ name_right v room (part image at (name_size v room (drop at image))) → b ≡ true → Reads image (name_field v room (drop at image)) (To (at + size))
+    → b ≡ name_right v room (part image at (name_size v room (drop at image))) → b ≡ true → Reads image (name_field v room (drop at image)) (Ok (at + size))
 unfolding name_field ◌>>=◌ give
 name_good v room image at size b h e l q t = (
   omega arith,
   name_read v room (part image at (name_size v room (drop at image))),
   rw e (field_past (name_size v room (drop at image)) BadField (name_right v room) (λ x. give (name_read v room x)) image at (omega arith) (sym q ∙ t)),
 )
-
--- a place that was reached is one of the image
-pub reached_within : {A : Type 0} (image : Octets) (m : Reading A) (x : Reached) (p : ℕ) → Reads image m x → x ≡ To p → p ≤ length image
-reached_within image m x p h e = (subst (λ (y : Reached). Reads image m y) e h).0
-
--- the name was read, and the short name behind it
-pub names_on : (v : Version) (image : Octets) (at p : ℕ) (x r : Reached) → Reads image (name_field v 249 (drop at image)) x → x ≡ To p
-    → Reads image (name_field v 11 (drop p image)) r
-    → Reads image (go_on (name_field v 249 (drop at image)) (λ n. name_field v 11)) r
-names_on v image at p x r h e l =
-    let y : Reads image (name_field v 249 (drop at image)) (To p) = subst (λ (z : Reached). Reads image (name_field v 249 (drop at image)) z) e h in
-    reads_on image (name_field v 249 (drop at image)) (λ n. name_field v 11) p r y (λ n. l)
-
--- the name has a fault
-pub names_stop : (v : Version) (image : Octets) (at : ℕ) (x : Reached) (k : ImageFault) (p : ℕ) → Reads image (name_field v 249 (drop at image)) x
-    → x ≡ Fault k p
-    → Reads image (go_on (name_field v 249 (drop at image)) (λ n. name_field v 11)) (Fault k p)
-names_stop v image at x k p h e =
-    let y : Reads image (name_field v 249 (drop at image)) (Fault k p) = subst (λ (z : Reached). Reads image (name_field v 249 (drop at image)) z) e h in
-    reads_stop image (name_field v 249 (drop at image)) (λ n. name_field v 11) k p y
 
 -- 4. Where the fixed part ends ----------------------------------------------------------------------------------------------------------------
 

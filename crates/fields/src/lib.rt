@@ -5,29 +5,33 @@ ghost use Rattle.std.specs.Prelude.{◌≡◌, ◌+◌, ◌≤◌, ◌<◌, leng
 ghost use Rattle.model.specs.Octets.{bit};
 ghost use Rattle.model.specs.Image.{bredr_flag, bredr_read, flag_word, name_right, name_size, no_zero};
 ghost use Rattle.model.specs.Reading.{fixed_part, flags_right, go_on, index_right, name_field};
-ghost use Rattle.octets.specs.Parts.{part};
 ghost use Rattle.fields.specs.Places.{fixed_end, hardware_in, settings_in};
-ghost use Rattle.fields.specs.Reads.{Reads};
+ghost use Rattle.fields.specs.Reads.{Kept, Reads, Whole};
 
-use model::{Hardware, HostSettings, ImageFault, RadioSettings, Reached, Settings, Timer, Version};
+use model::{Hardware, HostSettings, ImageFault, RadioSettings, Settings, Timer, Version};
+
+// The first fault of an image, and the offset at which that begins.
+#[derive(Clone, Copy)]
+pub struct FaultAt {
+    pub fault: ImageFault,
+    pub at: usize,
+}
 
 // The hardware that the fixed part at a place says.
 pub fn hardware_in(image: &[u8], at: usize) -> Hardware
     requires { at + 14 ≤ length image.now }
     ensures { result ≡ hardware_in (drop at image.now) }
 {
-    let public_address = octets::six(image, at + 1);
-    let manufacturer = octets::be16_at(image, at + 8) as u16;
-    let supported = octets::be32_at(image, at + 10) as u32;
     Hardware {
-        public_address,
+        public_address: octets::six(image, at + 1),
         version: image[at + 7],
-        manufacturer,
-        supported,
+        manufacturer: octets::be16_at(image, at + 8) as u16,
+        supported: octets::be32_at(image, at + 10) as u32,
     }
 }
 
 // Whether BR/EDR is on, by the flags: in version 1 it is where it is supported.
+#[tactic(auto, unfolding(model::specs::Image::bredr_read, model::specs::Octets::bit))]
 fn bredr_in(version: Version, f: Hardware, flags: u64) -> bool
     ensures { result ≡ bredr_read version f flags }
 {
@@ -38,13 +42,14 @@ fn bredr_in(version: Version, f: Hardware, flags: u64) -> bool
 }
 
 // How many octets the name's field at a place has: all of the room in version 1, in version 2 its length octet and as many as that says.
+#[tactic(auto, using(crate::proofs::Places::at_first), unfolding(model::specs::Image::name_size, model::specs::Octets::octet))]
 pub fn name_size(version: Version, room: usize, image: &[u8], at: usize) -> usize
     requires { at < length image.now }
     ensures { (result ≡ name_size version room (drop at image.now)) × (result ≤ room + 256) }
 {
     match version {
         Version::One => room,
-        Version::Two => image[at] as usize + 1,
+        Version::Two => usize::from(image[at]) + 1,
     }
 }
 
@@ -55,15 +60,13 @@ pub fn settings_in(version: Version, image: &[u8], at: usize) -> Settings
 {
     let hardware = hardware_in(image, at);
     let flags = octets::be32_at(image, at + 14);
-    let static_address = octets::six(image, at + 18);
-    let bredr = bredr_in(version, hardware, flags);
     let radio = RadioSettings {
         hardware,
         powered: false,
         connectable: flags / 2 % 2 == 1,
-        bredr,
+        bredr: bredr_in(version, hardware, flags),
         low_energy: flags / 512 % 2 == 1,
-        static_address,
+        static_address: octets::six(image, at + 18),
     };
     let timer = Timer {
         discoverable: false,
@@ -79,13 +82,15 @@ pub fn settings_in(version: Version, image: &[u8], at: usize) -> Settings
 // The checks
 
 // Whether an index is from low to 3.
+#[tactic(auto, unfolding(model::specs::Reading::index_right))]
 fn index_right(low: u64, index: u64) -> bool
     ensures { result ≡ index_right low index }
 {
-    rules::both(low <= index, index <= 3)
+    low <= index && index <= 3
 }
 
 // Of these flags those that the version has.
+#[tactic(auto, using(crate::proofs::Checks::flags_one, crate::proofs::Checks::flags_two))]
 fn known_flags(version: Version, flags: u64) -> u64
     ensures { result ≡ flag_word (bit 1 flags) (bit 4 flags) (bredr_flag version (bit 7 flags)) (bit 9 flags) }
 {
@@ -97,112 +102,98 @@ fn known_flags(version: Version, flags: u64) -> u64
 }
 
 // Whether there is no other flag than the version has, and BR/EDR and Low Energy are on only where they can be.
+#[tactic(auto, using(crate::proofs::Checks::flags_known, crate::proofs::Checks::flags_unknown))]
 fn flags_right(version: Version, f: Hardware, flags: u64) -> bool
     ensures { result ≡ flags_right version f flags }
 {
-    let bredr = bredr_in(version, f, flags);
-    if flags == known_flags(version, flags) {
-        return rules::switches_ok(f, bredr, flags / 512 % 2 == 1);
-    }
-    false
+    flags == known_flags(version, flags)
+        && rules::switches_ok(f, bredr_in(version, f, flags), flags / 512 % 2 == 1)
 }
 
-// Whether none of the n octets from the place `at` on is zero.
-fn no_zero(s: &[u8], at: usize, n: usize) -> bool
-    requires { at + n ≤ length s.now }
-    ensures { result ≡ no_zero (part s.now at n) }
+// Whether none of these octets is zero.
+fn no_zero(s: &[u8]) -> bool
+    ensures { result ≡ no_zero s.now }
 {
-    let mut i: usize = 0;
-    while i < n {
-        if s[at + i] == 0 {
-            return false;
-        }
-        i += 1;
-    }
-    true
+    s.iter().all(|x| *x != 0)
 }
 
-// Whether the name's field at a place, which is whole, keeps its rule: in version 1 it ends in a zero octet, in version 2 its length is below the room and
-// no octet is zero.
-fn name_right(version: Version, room: usize, image: &[u8], at: usize) -> bool
-    requires { (0 < room) × (at < length image.now) × (at + name_size version room (drop at image.now) ≤ length image.now) }
-    ensures { result ≡ name_right version room (part image.now at (name_size version room (drop at image.now))) }
+// Whether a name's field, which is whole, keeps its rule: in version 1 it ends in a zero octet, in version 2 its length is below the room and no octet is
+// zero.
+#[tactic(auto, using(crate::proofs::Checks::right_two), unfolding(model::specs::Image::name_size, model::specs::Image::name_right, model::specs::Octets::octet))]
+fn name_right(version: Version, room: usize, field: &[u8]) -> bool
+    requires { (0 < room) × (name_size version room field.now ≤ length field.now) }
+    ensures { result ≡ name_right version room field.now }
 {
     match version {
-        Version::One => image[at + (room - 1)] == 0,
-        Version::Two => {
-            let used = image[at] as usize;
-            if used < room {
-                return no_zero(image, at + 1, used);
-            }
-            false
-        }
+        Version::One => field[room - 1] == 0,
+        Version::Two => usize::from(field[0]) < room && no_zero(&field[1..]),
     }
 }
 
 // Reading
 
+// Goes on where a rule is kept; else a thing at a place has this fault.
+pub fn kept(rule: bool, fault: ImageFault, at: usize) -> Result<(), FaultAt>
+    ensures { Kept rule fault at result }
+{
+    if rule {
+        Ok(())
+    } else {
+        Err(FaultAt { fault, at })
+    }
+}
+
+// Goes on where the thing at a place is whole, which has so many octets; else the image ends before it is, and the fault is told at its end.
+pub fn whole(image: &[u8], at: usize, size: usize) -> Result<(), FaultAt>
+    requires { at ≤ length image.now }
+    ensures { Whole image.now at size result }
+{
+    kept(size <= image.len() - at, ImageFault::BadLength, image.len())
+}
+
 // Reads a name's field at a place.
-fn name(version: Version, room: usize, image: &[u8], at: usize) -> Reached
+fn name(version: Version, room: usize, image: &[u8], at: usize) -> Result<usize, FaultAt>
     requires { (0 < room) × (at ≤ length image.now) }
     ensures { Reads image.now (name_field version room (drop at image.now)) result }
 {
-    if image.len() <= at {
-        return Reached::Fault(ImageFault::BadLength, image.len());
-    }
+    whole(image, at, 1)?;
     let size = name_size(version, room, image, at);
-    if image.len() - at < size {
-        return Reached::Fault(ImageFault::BadLength, image.len());
-    }
-    if name_right(version, room, image, at) {
-        return Reached::To(at + size);
-    }
-    Reached::Fault(ImageFault::BadField, at)
+    whole(image, at, size)?;
+    let field = &image[at..at + size];
+    kept(name_right(version, room, field), ImageFault::BadField, at)?;
+    Ok(at + size)
 }
 
 // Reads the name and the short name at a place.
-fn names(version: Version, image: &[u8], at: usize) -> Reached
+fn names(version: Version, image: &[u8], at: usize) -> Result<usize, FaultAt>
     requires { at ≤ length image.now }
     ensures { Reads image.now (go_on (name_field version 249 (drop at image.now)) (λ n. name_field version 11)) result }
 {
-    match name(version, 249, image, at) {
-        Reached::To(short) => name(version, 11, image, short),
-        Reached::Fault(fault, place) => Reached::Fault(fault, place),
-    }
+    let short = name(version, 249, image, at)?;
+    name(version, 11, image, short)
 }
 
 // Reads the fixed part of a controller at a place, whose index must be at least low.
-pub fn fixed_part(version: Version, low: u64, image: &[u8], at: usize) -> Reached
+pub fn fixed_part(version: Version, low: u64, image: &[u8], at: usize) -> Result<usize, FaultAt>
     requires { at ≤ length image.now }
     ensures { Reads image.now (fixed_part version low (drop at image.now)) result }
 {
-    let left = image.len() - at;
-    if left < 1 {
-        return Reached::Fault(ImageFault::BadLength, image.len());
-    }
-    if !index_right(low, octets::wide(image[at])) {
-        return Reached::Fault(ImageFault::BadIndex, at);
-    }
-    if left < 14 {
-        return Reached::Fault(ImageFault::BadLength, image.len());
-    }
+    whole(image, at, 1)?;
+    let index = u64::from(image[at]);
+    kept(index_right(low, index), ImageFault::BadIndex, at)?;
+    whole(image, at, 14)?;
     let f = hardware_in(image, at);
-    if !rules::hardware_ok(f) {
-        return Reached::Fault(ImageFault::BadField, at + 10);
-    }
-    if left < 18 {
-        return Reached::Fault(ImageFault::BadLength, image.len());
-    }
-    if !flags_right(version, f, octets::be32_at(image, at + 14)) {
-        return Reached::Fault(ImageFault::BadField, at + 14);
-    }
-    if left < 24 {
-        return Reached::Fault(ImageFault::BadLength, image.len());
-    }
+    kept(rules::hardware_ok(f), ImageFault::BadField, at + 10)?;
+    whole(image, at, 18)?;
+    let flags = octets::be32_at(image, at + 14);
+    kept(
+        flags_right(version, f, flags),
+        ImageFault::BadField,
+        at + 14,
+    )?;
+    whole(image, at, 24)?;
     let own = octets::six(image, at + 18);
-    if !rules::static_fits(f, &own) {
-        return Reached::Fault(ImageFault::BadField, at + 18);
-    }
+    kept(rules::static_fits(f, &own), ImageFault::BadField, at + 18)?;
     names(version, image, at + 24)
 }
 

@@ -15,8 +15,7 @@ use Rattle.model.specs.Layout.{decode}
 use Rattle.model.specs.Meanings.{state_ok}
 use Rattle.octets.specs.Parts.{write_at}
 use Rattle.octets.proofs.Parts.{write_front}
-use Rattle.why.specs.declared.Finding.{Finding}
-use Rattle.why.specs.Findings.{status_in, why, why_by}
+use Rattle.why.specs.Findings.{Finding, status_in, why, why_by}
 use Rattle.why.specs.Wording.{text_of}
 use Rattle.why.specs.Meaning.{hub_why, text_buffer, told, untold}
 use Rattle.why.proofs.Lengths.{text_short}

@@ -17,16 +17,13 @@ ghost use Rattle.why.specs.Meaning.{hub_why, text_buffer, told};
 ghost use Rattle.hub.specs.Entries.{packed, look_up_number, Explains, Returns, ReturnsLoaded, ReturnsMoved, ReturnsTaken, Takes};
 
 use model::{Answer, LookUpReply, lengths};
-use why::Finding;
+use why::Objection;
 
 // Whether a packet has a header, and as many octets behind it as the header says.
 fn packet_ok(packet: &[u8]) -> bool
     ensures { result ≡ Hub.packet_ok packet.now }
 {
-    if 6 <= packet.len() {
-        return octets::u16_at(packet, 4) == (packet.len() - 6) as u64;
-    }
-    false
+    6 <= packet.len() && octets::u16_at(packet, 4) == (packet.len() - 6) as u64
 }
 
 // What came of a lump: the answer, and how many of its octets were taken.
@@ -41,8 +38,7 @@ fn pack(a: Answer) -> u64
     requires { count_of a ≤ Lengths.largest_image }
     ensures { result ≡ packed a }
 {
-    let n = replies::count(a) as u64;
-    replies::number(a) + 256 * n
+    replies::number(a) + 256 * replies::count(a) as u64
 }
 
 // The same with the offset of a fault in the upper half.
@@ -50,8 +46,7 @@ fn pack_offset(a: Answer) -> u64
     requires { (count_of a ≤ Lengths.largest_image) × (offset_of a < 2 ^ 32) }
     ensures { result ≡ packed a + 2 ^ 32 * offset_of a }
 {
-    let at = replies::offset(a) as u64;
-    pack(a) + 0x100000000 * at
+    pack(a) + 0x100000000 * replies::offset(a) as u64
 }
 
 // A whole packet, on a well-formed state and with room for a reply: the function that serves its code.
@@ -71,16 +66,16 @@ fn command(state: &mut [u8], packet: &[u8], reply: &mut [u8]) -> Answer
     ensures { Gives (meaning state.old (Hub.command (length reply.old) packet.now)) result reply.old
         reply.new state.new }
 {
-    if checks::well_formed(state) {
-        if lengths::REPLY_BUFFER <= reply.len() {
-            if packet_ok(packet) {
-                return serve(state, packet, reply);
-            }
-            return Answer::BadPacket;
-        }
+    if !checks::well_formed(state) {
+        return Answer::BadState;
+    }
+    if reply.len() < lengths::REPLY_BUFFER {
         return Answer::SmallBuffer;
     }
-    Answer::BadState
+    if !packet_ok(packet) {
+        return Answer::BadPacket;
+    }
+    serve(state, packet, reply)
 }
 
 // The last octets of a packet that was waiting: it is put together beside the state, and served, or refused by its head where it is too long to be kept.
@@ -133,24 +128,25 @@ fn take_in(state: &mut [u8], lump: &[u8], reply: &mut [u8]) -> LumpAnswer
     }
 }
 
+// A lump that is refused: none of its octets is taken.
+fn untaken(answer: Answer) -> LumpAnswer
+    ensures { result ≡ record { answer = answer; taken = 0 } }
+{
+    LumpAnswer { answer, taken: 0 }
+}
+
 // Octets off the serial line: state, room, then those that are taken.
 fn stream(state: &mut [u8], lump: &[u8], reply: &mut [u8]) -> LumpAnswer
     ensures { Takes (hub_stream state.old lump.now (length reply.old)) result reply.old reply.new
         state.new }
 {
-    if checks::well_formed(state) {
-        if lengths::REPLY_BUFFER <= reply.len() {
-            return take_in(state, lump, reply);
-        }
-        return LumpAnswer {
-            answer: Answer::SmallBuffer,
-            taken: 0,
-        };
+    if !checks::well_formed(state) {
+        return untaken(Answer::BadState);
     }
-    LumpAnswer {
-        answer: Answer::BadState,
-        taken: 0,
+    if reply.len() < lengths::REPLY_BUFFER {
+        return untaken(Answer::SmallBuffer);
     }
+    take_in(state, lump, reply)
 }
 
 // A report of the radio.
@@ -158,13 +154,13 @@ fn report(state: &mut [u8], index: u64, status: u64, reply: &mut [u8]) -> Answer
     ensures { Gives (meaning state.old (Hub.report (length reply.old) index status)) result reply.old reply.new
         state.new }
 {
-    if checks::well_formed(state) {
-        if lengths::REPLY_BUFFER <= reply.len() {
-            return settings::report(state, index, status, reply);
-        }
+    if !checks::well_formed(state) {
+        return Answer::BadState;
+    }
+    if reply.len() < lengths::REPLY_BUFFER {
         return Answer::SmallBuffer;
     }
-    Answer::BadState
+    settings::report(state, index, status, reply)
 }
 
 // A reading of the clock.
@@ -172,13 +168,13 @@ fn clock(state: &mut [u8], reading: u32, reply: &mut [u8]) -> Answer
     ensures { Gives (meaning state.old (Hub.clock (length reply.old) reading)) result reply.old reply.new
         state.new }
 {
-    if checks::well_formed(state) {
-        if lengths::REPLY_BUFFER <= reply.len() {
-            return calls::clock(state, reading, reply);
-        }
+    if !checks::well_formed(state) {
+        return Answer::BadState;
+    }
+    if reply.len() < lengths::REPLY_BUFFER {
         return Answer::SmallBuffer;
     }
-    Answer::BadState
+    calls::clock(state, reading, reply)
 }
 
 // A controller is plugged in.
@@ -195,77 +191,77 @@ fn plug(
         (record { public_address = address.now; version = version; manufacturer = manufacturer; supported = supported }))) result
         reply.old reply.new state.new }
 {
-    if checks::well_formed(state) {
-        if lengths::REPLY_BUFFER <= reply.len() {
-            return calls::plug(
-                state,
-                index,
-                address,
-                version,
-                manufacturer,
-                supported,
-                reply,
-            );
-        }
+    if !checks::well_formed(state) {
+        return Answer::BadState;
+    }
+    if reply.len() < lengths::REPLY_BUFFER {
         return Answer::SmallBuffer;
     }
-    Answer::BadState
+    calls::plug(
+        state,
+        index,
+        address,
+        version,
+        manufacturer,
+        supported,
+        reply,
+    )
 }
 
 // A controller is gone.
 fn unplug(state: &mut [u8], index: u64, reply: &mut [u8]) -> Answer
     ensures { Gives (meaning state.old (Hub.unplug (length reply.old) index)) result reply.old reply.new state.new }
 {
-    if checks::well_formed(state) {
-        if lengths::REPLY_BUFFER <= reply.len() {
-            return calls::unplug(state, index, reply);
-        }
+    if !checks::well_formed(state) {
+        return Answer::BadState;
+    }
+    if reply.len() < lengths::REPLY_BUFFER {
         return Answer::SmallBuffer;
     }
-    Answer::BadState
+    calls::unplug(state, index, reply)
 }
 
 // The image of the state.
 fn save(state: &[u8], reply: &mut [u8]) -> Answer
     ensures { Gives (meaning state.now (Hub.save (length reply.old))) result reply.old reply.new state.now }
 {
-    if checks::well_formed(state) {
-        if lengths::LARGEST_IMAGE <= reply.len() {
-            return image::save(state, reply);
-        }
+    if !checks::well_formed(state) {
+        return Answer::BadState;
+    }
+    if reply.len() < lengths::LARGEST_IMAGE {
         return Answer::SmallBuffer;
     }
-    Answer::BadState
+    image::save(state, reply)
 }
 
 // The used part of a name.
 fn name(state: &[u8], index: u64, which: u64, reply: &mut [u8]) -> Answer
     ensures { Gives (hub_name state.now index which (length reply.old)) result reply.old reply.new state.now }
 {
-    if checks::well_formed(state) {
-        if lengths::REPLY_BUFFER <= reply.len() {
-            return information::tell_name(state, index, which, reply);
-        }
+    if !checks::well_formed(state) {
+        return Answer::BadState;
+    }
+    if reply.len() < lengths::REPLY_BUFFER {
         return Answer::SmallBuffer;
     }
-    Answer::BadState
+    information::tell_name(state, index, which, reply)
 }
 
 // What is on air at an index.
 fn on_air(state: &[u8], index: u64, reply: &mut [u8]) -> Answer
     ensures { Gives (hub_on_air state.now index (length reply.old)) result reply.old reply.new state.now }
 {
-    if checks::well_formed(state) {
-        if lengths::REPLY_BUFFER <= reply.len() {
-            return advertising::on_air(state, index, reply);
-        }
+    if !checks::well_formed(state) {
+        return Answer::BadState;
+    }
+    if reply.len() < lengths::REPLY_BUFFER {
         return Answer::SmallBuffer;
     }
-    Answer::BadState
+    advertising::on_air(state, index, reply)
 }
 
 // What is found of a packet.
-fn found(state: &[u8], packet: &[u8]) -> Finding
+fn found(state: &[u8], packet: &[u8]) -> Result<(), Objection>
     requires { (state_ok state.now ≡ true) × (Hub.packet_ok packet.now ≡ true) }
     ensures { result ≡ why (decode state.now) packet.now }
 {
@@ -275,7 +271,7 @@ fn found(state: &[u8], packet: &[u8]) -> Finding
 }
 
 // What is found, in words, and the status in the upper half of the number.
-fn tell(text: &mut [u8], f: Finding) -> u64
+fn tell(text: &mut [u8], f: Result<(), Objection>) -> u64
     requires { text_buffer ≤ length text.old }
     ensures { Explains (told f) result text.old text.new }
 {
@@ -288,10 +284,10 @@ fn tell(text: &mut [u8], f: Finding) -> u64
 fn look_up(state: &[u8], index: u64, table: u64, key: &[u8]) -> LookUpReply
     ensures { result ≡ hub_look_up state.now index table key.now }
 {
-    if checks::well_formed(state) {
-        return information::look_up(state, index, table, key);
+    if !checks::well_formed(state) {
+        return information::refused_look_up(Answer::BadState);
     }
-    information::refused_look_up(Answer::BadState)
+    information::look_up(state, index, table, key)
 }
 
 // C's call of a command.
@@ -300,8 +296,7 @@ pub extern "C" fn hub_command(state: &mut [u8], packet: &[u8], reply: &mut [u8])
     ensures { Returns (hub_command state.old packet.now (length reply.old)) result reply.old reply.new
         state.new }
 {
-    let a = command(state, packet, reply);
-    pack(a)
+    pack(command(state, packet, reply))
 }
 
 // C's call of octets off the serial line.
@@ -311,8 +306,7 @@ pub extern "C" fn hub_stream(state: &mut [u8], octets: &[u8], reply: &mut [u8]) 
         state.new }
 {
     let a = stream(state, octets, reply);
-    let answer = a.answer;
-    pack(answer) + 0x100000000 * (a.taken as u64)
+    pack(a.answer) + 0x100000000 * a.taken as u64
 }
 
 // C's call of a report.
@@ -320,8 +314,7 @@ pub extern "C" fn hub_stream(state: &mut [u8], octets: &[u8], reply: &mut [u8]) 
 pub extern "C" fn hub_report(state: &mut [u8], index: u64, status: u64, reply: &mut [u8]) -> u64
     ensures { Returns (hub_report state.old index status (length reply.old)) result reply.old reply.new state.new }
 {
-    let a = report(state, index, status, reply);
-    pack(a)
+    pack(report(state, index, status, reply))
 }
 
 // C's call of a clock reading.
@@ -329,8 +322,7 @@ pub extern "C" fn hub_report(state: &mut [u8], index: u64, status: u64, reply: &
 pub extern "C" fn hub_clock(state: &mut [u8], reading: u32, reply: &mut [u8]) -> u64
     ensures { Returns (hub_clock state.old reading (length reply.old)) result reply.old reply.new state.new }
 {
-    let a = clock(state, reading, reply);
-    pack(a)
+    pack(clock(state, reading, reply))
 }
 
 // C's call of a plug.
@@ -348,7 +340,7 @@ pub extern "C" fn hub_plug(
         (record { public_address = address.now; version = version; manufacturer = manufacturer; supported = supported })
         (length reply.old)) result reply.old reply.new state.new }
 {
-    let a = plug(
+    pack(plug(
         state,
         index,
         address,
@@ -356,8 +348,7 @@ pub extern "C" fn hub_plug(
         manufacturer,
         supported,
         reply,
-    );
-    pack(a)
+    ))
 }
 
 // C's call of an unplug.
@@ -365,8 +356,7 @@ pub extern "C" fn hub_plug(
 pub extern "C" fn hub_unplug(state: &mut [u8], index: u64, reply: &mut [u8]) -> u64
     ensures { Returns (hub_unplug state.old index (length reply.old)) result reply.old reply.new state.new }
 {
-    let a = unplug(state, index, reply);
-    pack(a)
+    pack(unplug(state, index, reply))
 }
 
 // C's call of a save.
@@ -374,8 +364,7 @@ pub extern "C" fn hub_unplug(state: &mut [u8], index: u64, reply: &mut [u8]) -> 
 pub extern "C" fn hub_save(state: &[u8], reply: &mut [u8]) -> u64
     ensures { Returns (hub_save state.now (length reply.old)) result reply.old reply.new state.now }
 {
-    let a = save(state, reply);
-    pack(a)
+    pack(save(state, reply))
 }
 
 // C's call of a load: nothing is written but the state.
@@ -383,8 +372,7 @@ pub extern "C" fn hub_save(state: &[u8], reply: &mut [u8]) -> u64
 pub extern "C" fn hub_load(state: &mut [u8], image: &[u8]) -> u64
     ensures { ReturnsLoaded (hub_load state.old image.now) result state.new }
 {
-    let a = restore::load(state, image);
-    pack_offset(a)
+    pack_offset(restore::load(state, image))
 }
 
 // C's move of an image to version 2: no state is lent.
@@ -392,8 +380,7 @@ pub extern "C" fn hub_load(state: &mut [u8], image: &[u8]) -> u64
 pub extern "C" fn hub_upgrade(image: &[u8], out: &mut [u8]) -> u64
     ensures { ReturnsMoved (hub_upgrade image.now (length out.old)) result out.old out.new }
 {
-    let a = moves::upgrade(image, out);
-    pack_offset(a)
+    pack_offset(moves::upgrade(image, out))
 }
 
 // C's move of an image back to version 1.
@@ -401,8 +388,7 @@ pub extern "C" fn hub_upgrade(image: &[u8], out: &mut [u8]) -> u64
 pub extern "C" fn hub_downgrade(image: &[u8], out: &mut [u8]) -> u64
     ensures { ReturnsMoved (hub_downgrade image.now (length out.old)) result out.old out.new }
 {
-    let a = moves::downgrade(image, out);
-    pack_offset(a)
+    pack_offset(moves::downgrade(image, out))
 }
 
 // C's question for a name: the state is only read.
@@ -410,8 +396,7 @@ pub extern "C" fn hub_downgrade(image: &[u8], out: &mut [u8]) -> u64
 pub extern "C" fn hub_name(state: &[u8], index: u64, which: u64, reply: &mut [u8]) -> u64
     ensures { Returns (hub_name state.now index which (length reply.old)) result reply.old reply.new state.now }
 {
-    let a = name(state, index, which, reply);
-    pack(a)
+    pack(name(state, index, which, reply))
 }
 
 // C's question what is on air: the state is only read.
@@ -419,8 +404,7 @@ pub extern "C" fn hub_name(state: &[u8], index: u64, which: u64, reply: &mut [u8
 pub extern "C" fn hub_on_air(state: &[u8], index: u64, reply: &mut [u8]) -> u64
     ensures { Returns (hub_on_air state.now index (length reply.old)) result reply.old reply.new state.now }
 {
-    let a = on_air(state, index, reply);
-    pack(a)
+    pack(on_air(state, index, reply))
 }
 
 // C's question why the hub would refuse a packet: the state, the room for the text, the frame, then what is found.

@@ -7,18 +7,18 @@ use mathlib.Core.List.{List, [], ◌∷◌, ◌++◌, map, append_assoc}
 use lib.ListN.{length, get_or, take, drop, length-append, length-drop, drop_of_length-le, take-append-drop}
 use lib.Seq.{drop-cons, length-take-le, take_all}
 use lib.Dec.{eqb, lit≤}
-use mathlib.Core.Bool.{true, false}
+use mathlib.Core.Bool.{Bool, true, false}
 use mathlib.Core.Option.{none}
 use Rattle.model.specs.Lengths as Lengths
 use Rattle.model.specs.declared.Settings.{Settings}
 use Rattle.model.specs.declared.Version.TheVariants.{Two}
 use Rattle.model.specs.Octets.{Octets, be16, be32, joined, octet, used_part}
-use Rattle.model.specs.State.{Controller, Table, name_part, settings_of, table_of}
+use Rattle.model.specs.State.{Controller, Table, flag, name_part, settings_of, table_of}
 use Rattle.model.specs.Hub.{save_out}
 use Rattle.model.specs.Layout.{controllers_in, decode}
 use Rattle.model.specs.Meanings.{state_ok}
 use Rattle.model.specs.Tables.{blocked_rule, device_rule, entries, identity_key_rule, link_key_rule, long_term_key_rule, table_rules, uuid_rule}
-use Rattle.model.specs.Image.{bredr_flag, controller_image, controller_images, flags_of, image, image_of, name_image, names_image, table_image, version_octet}
+use Rattle.model.specs.Image.{bredr_flag, controller_image, controller_images, flag_word, flags_of, image, image_of, name_image, names_image, table_image, version_octet}
 use Rattle.model.specs.WellFormed.{plain_ok, well_formed}
 use Rattle.model.proofs.Model.Fields.{used_most}
 use Rattle.model.proofs.Model.Fixed.{name_parts}
@@ -79,44 +79,40 @@ pub record Saving (s : Octets) (at size : ℕ) (d₀ : Octets) (p₀ : ℕ) (d :
   pub goes : p + length (joined (entries (drop k (table_at s at size)))) ≡ p₀ + length (joined (entries (table_at s at size)))
 
 module _ (s : Octets) (at size : ℕ) (d₀ : Octets) (p₀ : ℕ) where
-  -- the walk comes to the first slot in use: nothing is written, and no record lies before it
-  pub saving_first : (r : ℕ) → NextUsed s at size 0 r → r ≤ 32 → Saving s at size d₀ p₀ d₀ p₀ r
-  saving_first r u l =
-      let f : entries (table_at s at size) ≡ entries (drop r (table_at s at size)) = next_entries s at size 0 r u in
-      let m : size * (32 - r) ≤ size * 32 = mul-le-mul_left size (omega arith) in
-      record { long = refl; room = omega arith; left = rw (← f); goes = rw (← f) }
+  -- at first nothing is written, and all records are left
+  pub saving_first : Saving s at size d₀ p₀ d₀ p₀ 0
+  saving_first = record { long = refl; room = omega arith; left = refl; goes = refl }
 
-  -- the record in slot k is written, and the walk goes on to the next slot in use
-  pub saving_turn : (d : Octets) (p k : ℕ) (d' : Octets) (r : ℕ) → at + (4 + size * 32) ≤ length s → k < 32 → InUse s at size k
-      → d' ≡ write_at d p (part s (at + (4 + size * k)) size) → NextUsed s at size (k + 1) r → k + 1 ≤ r → r ≤ 32
-      → Saving s at size d₀ p₀ d p k → Saving s at size d₀ p₀ d' (p + size) r
-  saving_turn d p k d' r h l u w v lo hi i =
-      let x : Octets = part s (at + (4 + size * k)) size in
-      let n : length x ≡ size = length_part s (at + (4 + size * k)) size (omega (arith, slot_room size k l)) in
-      let f : entries (drop k (table_at s at size)) ≡ x ∷ entries (drop r (table_at s at size)) = in_use_entries s at size k u
-      ∙ rw (next_entries s at size (k + 1) r v) in
-      let m : size * (32 - r) ≤ size * (32 - (k + 1)) = mul-le-mul_left size (omega arith) in
-      let a = slots_room size k l in
-      let b = i.room in
+  -- the walk that has come to slot k finds the record in slot r: there is room for it
+  pub saving_room : (d : Octets) (p k r : ℕ) → k ≤ r → r < 32 → Saving s at size d₀ p₀ d p k → p + size + size * (32 - (r + 1)) ≤ p₀ + size * 32
+  saving_room d p k r h l i =
+      let m : size * (32 - r) ≤ size * (32 - k) = mul-le-mul_left size (omega arith) in
+      omega (arith, slots_room size r l, i.room)
+
+  -- it is written, and the walk goes on behind it
+  pub saving_turn : (d : Octets) (p k r : ℕ) (d' : Octets) → at + (4 + size * 32) ≤ length s → k ≤ r → r < 32 → NextUsed s at size k r
+      → d' ≡ write_at d p (part s (at + (4 + size * r)) size) → Saving s at size d₀ p₀ d p k → Saving s at size d₀ p₀ d' (p + size) (r + 1)
+  saving_turn d p k r d' h lo hi v w i =
+      let x : Octets = part s (at + (4 + size * r)) size in
+      let n : length x ≡ size = length_part s (at + (4 + size * r)) size (omega (arith, slot_room size r hi)) in
+      let f : entries (drop k (table_at s at size)) ≡ x ∷ entries (drop (r + 1) (table_at s at size)) = next_entries s at size k r v
+      ∙ in_use_entries s at size r (v.used hi) in
       record {
         long = rw w (length_write_at d p x) ∙ i.long;
-        room = omega arith;
-        left = rw w (sym (write_first d p x (entries (drop r (table_at s at size))) size n)) ∙ (rw f at i.left);
-        goes = sym (length_first p x (entries (drop r (table_at s at size))) size n) ∙ (rw f at i.goes);
+        room = saving_room d p k r lo hi i;
+        left = rw w (sym (write_first d p x (entries (drop (r + 1) (table_at s at size))) size n)) ∙ (rw f at i.left);
+        goes = sym (length_first p x (entries (drop (r + 1) (table_at s at size))) size n) ∙ (rw f at i.goes);
       }
 
-  -- the record in slot k finds room
-  pub saving_room : (d : Octets) (p k : ℕ) → k < 32 → Saving s at size d₀ p₀ d p k → p + size ≤ p₀ + size * 32
-  saving_room d p k l i = omega (arith, slots_room size k l, i.room)
-
   -- all are written: behind the count, that is the table's image
-  pub saving_last : (d : Octets) (p k n place : ℕ) (e : Octets) → 32 ≤ k → n ≡ length (entries (table_at s at size)) → d₀ ≡ write_at e place (n ∷ [])
+  pub saving_last : (d : Octets) (p k n place : ℕ) (e : Octets) → NextUsed s at size k 32 → n ≡ length (entries (table_at s at size)) → d₀ ≡ write_at e place (n ∷ [])
       → p₀ ≡ place + 1 → Saving s at size d₀ p₀ d p k
       → (p ≡ place + length (table_image (table_at s at size))) × (p ≤ place + (1 + size * 32)) × (d ≡ write_at e place (table_image (table_at s at size)))
   unfolding entries table_image
-  saving_last d p k n place e l m w q i =
+  saving_last d p k n place e u m w q i =
       let t : Table = table_at s at size in
-      let f : drop k t ≡ [] = drop_of_length-le t {i = k} (rw (length_table s at size) l) in
+      let z : drop 32 t ≡ [] = drop_of_length-le t {i = 32} (rw (length_table s at size) (omega arith)) in
+      let f : entries (drop k t) ≡ [] = next_entries s at size k 32 u ∙ rw z in
       let g : write_at e place (n ∷ joined (entries t)) ≡ write_at (write_at e place (n ∷ [])) (place + 1) (joined (entries t)) = write_split e place
       (n ∷ []) (joined (entries t)) in
       let a : p ≡ p₀ + length (joined (entries t)) = goes_none p _ (rw f at i.goes) in
@@ -209,6 +205,18 @@ module _ (s : Octets) (i : ℕ) (ready : Ready s i) (d₀ : Octets) (p₀ : ℕ)
 
 -- 3. The fixed part, and a controller ---------------------------------------------------------------------------------------------------------------
 
+-- a flag is no more than its bit
+flag_most : (b : Bool) (n : ℕ) → flag b n ≤ n
+unfolding flag
+flag_most true n = omega arith
+flag_most false n = omega arith
+
+-- so the flags are a number of four octets
+pub flags_small : (m : Settings) → flags_in m < 4294967296
+unfolding flags_in flag_word
+flags_small m =
+    omega (arith, flag_most m.radio.connectable 2, flag_most m.host.bondable 16, flag_most m.radio.bredr 128, flag_most m.radio.low_energy 512)
+
 -- the numbers of a controller's image have 1 + 2 + 4 + 4 = 11 octets
 pub length_numbers : (m : Settings) → length (numbers_image m) ≡ 11
 unfolding numbers_image be16 be32
@@ -256,7 +264,7 @@ length_fixed i m a b = simp length-append (omega (arith, length_numbers m))
 
 -- the length of a name's used part and that part, written one behind the other, are the name's image
 pub name_written : (n used d d1 d2 : Octets) (p : ℕ) → used ≡ used_part n → length used ≤ 249 → d1 ≡ write_at d p (length used ∷ []) → d2 ≡ write_at d1 (p + 1) used
-    → (p + (length used + 1) ≡ p + length (name_image Two n)) × (p + (length used + 1) ≤ p + 250) × (d2 ≡ write_at d p (name_image Two n))
+    → (p + 1 + length used ≡ p + length (name_image Two n)) × (p + 1 + length used ≤ p + 250) × (d2 ≡ write_at d p (name_image Two n))
 unfolding name_image
 name_written n used d d1 d2 p u l a b =
     let f : length used ≡ length (used_part n) = rw u in

@@ -27,11 +27,12 @@ fn save_records(state: &[u8], at: usize, size: usize, out: &mut [u8], place: usi
 {
     octets::put8(out, place, table::used(state, at) as u8);
     let mut p = place + 1;
-    let mut slot = table::next_used(state, at, 0);
-    while slot < 32 {
-        octets::copy_part(out, p, state, at + (4 + size * slot), size);
-        p = p + size;
-        slot = table::next_used(state, at, slot + 1);
+    let mut from = 0;
+    while let Some(slot) = table::next_used(state, at, from) {
+        let record = at + (4 + size * slot);
+        octets::copy_into(out, p, &state[record..record + size]);
+        p += size;
+        from = slot + 1;
     }
     p
 }
@@ -43,50 +44,36 @@ fn save_tables(state: &[u8], index: u64, out: &mut [u8], place: usize) -> usize
         × (out.new ≡ write_at out.old place (joined (map table_image (controller_of state.now index).host.tables))) }
 {
     let mut p = place;
-    let mut k: usize = 0;
-    while k < 6 {
-        p = save_records(
-            state,
-            layout::table_place(index, k),
-            records::size_of(k),
-            out,
-            p,
-        );
-        k += 1;
+    for k in 0..6 {
+        let at = layout::table_place(index, k);
+        p = save_records(state, at, records::size_of(k), out, p);
     }
     p
 }
 
 // The flags that the image keeps: connectable, bondable, BR/EDR, Low Energy.
+#[tactic(auto, unfolding(crate::specs::Images::flags_in))]
 fn flags_of(m: Settings) -> u64
     ensures { result ≡ flags_in m }
 {
-    let r = m.radio;
-    let h = m.host;
-    rules::flag_word(r.connectable, h.bondable, r.bredr, r.low_energy)
+    rules::flag_word(
+        m.radio.connectable,
+        m.host.bondable,
+        m.radio.bredr,
+        m.radio.low_energy,
+    )
 }
 
 // The numbers of a controller, as they lie in the image.
 fn numbers(m: Settings) -> [u8; 11]
     ensures { result ≡ numbers_image m }
 {
-    let r = m.radio;
-    let f = r.hardware;
-    let a = f.manufacturer;
-    let s = f.supported;
-    let g = flags_of(m);
+    let f = m.radio.hardware;
+    let a = f.manufacturer.to_be_bytes();
+    let s = f.supported.to_be_bytes();
+    let g = (flags_of(m) as u32).to_be_bytes();
     [
-        f.version,
-        (a / 256 % 256) as u8,
-        (a % 256) as u8,
-        (s / 16777216 % 256) as u8,
-        (s / 65536 % 256) as u8,
-        (s / 256 % 256) as u8,
-        (s % 256) as u8,
-        (g / 16777216 % 256) as u8,
-        (g / 65536 % 256) as u8,
-        (g / 256 % 256) as u8,
-        (g % 256) as u8,
+        f.version, a[0], a[1], s[0], s[1], s[2], s[3], g[0], g[1], g[2], g[3],
     ]
 }
 
@@ -95,14 +82,9 @@ fn save_fixed(m: Settings, index: u64, out: &mut [u8], place: usize)
     requires { (index < 4) × (place + 24 ≤ length out.old) }
     ensures { out.new ≡ write_at out.old place (fixed_image index m) }
 {
-    let n = numbers(m);
-    let r = m.radio;
-    let f = r.hardware;
-    let public_address = f.public_address;
-    let static_address = r.static_address;
-    octets::copy_into(out, place + 18, &static_address);
-    octets::copy_into(out, place + 1, &public_address);
-    octets::copy_into(out, place + 7, &n);
+    octets::copy_into(out, place + 18, &m.radio.static_address);
+    octets::copy_into(out, place + 1, &m.radio.hardware.public_address);
+    octets::copy_into(out, place + 7, &numbers(m));
     octets::put8(out, place, index as u8);
 }
 
@@ -114,11 +96,9 @@ fn save_name(state: &[u8], index: u64, which: u64, out: &mut [u8], place: usize)
         × (out.new ≡ write_at out.old place (name_image Two (name_part which (controller_of state.now index).host.name))) }
 {
     let used = layout::used_name(state, index, which);
-    let n = used.len();
-    let size = n + 1;
-    octets::put8(out, place, n as u8);
+    octets::put8(out, place, used.len() as u8);
     octets::copy_into(out, place + 1, used);
-    place + size
+    place + 1 + used.len()
 }
 
 // Writes the image of the controller at an index. Gives the place behind it.
@@ -141,13 +121,11 @@ pub fn save(state: &[u8], out: &mut [u8]) -> Answer
 {
     let mut place: usize = 6;
     let mut count: u8 = 0;
-    let mut index: u64 = 0;
-    while index < 4 {
+    for index in 0..4 {
         if layout::present(state, index) {
             place = save_controller(state, index, out, place);
             count += 1;
         }
-        index += 1;
     }
     octets::put_be32(out, 0, place as u64);
     octets::put8(out, 4, 2);

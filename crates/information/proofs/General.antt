@@ -1,7 +1,7 @@
 -- The general commands: from what their steps leave to what the model says of them, over plain values.
 -- Assumes nothing.
 use mathlib.Core.Path.{◌≡◌, refl, sym, ◌∙◌}
-use Prim.Native.Nat.{ℕ, suc, ◌+◌, ◌-◌, ◌/◌, ◌≤◌, ◌<◌}
+use Prim.Native.Nat.{ℕ, zero, suc, ◌+◌, ◌-◌, ◌/◌, ◌≤◌, ◌<◌}
 use native.Mathlib.Omega.{arith}
 use mathlib.Core.Bool.{Bool, true, false}
 use mathlib.Core.List.{List, [], ◌∷◌, ◌++◌, append-nil, append_assoc}
@@ -215,38 +215,31 @@ next_index d at l m k e = rw e (sym (rw (words_append l m) (write_split d at (wo
 half : (e n w l : ℕ) → e ≡ 2 + w → w ≡ l + l → n ≡ (e - 2) / 2 → n ≡ l
 half e n w l ee ew en = omega arith
 
+-- the first k indexes, as far as they hold a controller
+abbrev pub first_listed : Octets → ℕ → List ℕ
+first_listed s zero = []
+first_listed s (suc k) = first_listed s k ++ listed s k
+
+-- one index more, behind those before it
+pub index_more : (s d d' d'' : Octets) (k p q : ℕ) → p ≡ 2 + length (words (first_listed s k)) → d' ≡ write_at d 2 (words (first_listed s k))
+    → q ≡ p + length (words (listed s k)) → d'' ≡ write_at d' p (words (listed s k))
+    → (q ≡ 2 + length (words (first_listed s (suc k)))) × (d'' ≡ write_at d 2 (words (first_listed s (suc k))))
+index_more s d d' d'' k p q ep w eq w' = (
+  rw (words_append (first_listed s k) (listed s k), length-append) (omega (arith, ep, eq)),
+  w' ∙ rw w (next_index d 2 (first_listed s k) (listed s k) p ep),
+)
+
 -- the count, from the place behind the last index
-pub indexes_put : (s d d0 d1 d2 d3 d4 : Octets) (a b c e n : ℕ) → 2 ≤ length d
-    → a ≡ 2 + length (words (listed s 0)) → d0 ≡ write_at d 2 (words (listed s 0))
-    → b ≡ a + length (words (listed s 1)) → d1 ≡ write_at d0 a (words (listed s 1))
-    → c ≡ b + length (words (listed s 2)) → d2 ≡ write_at d1 b (words (listed s 2))
-    → e ≡ c + length (words (listed s 3)) → d3 ≡ write_at d2 c (words (listed s 3))
-    → n ≡ (e - 2) / 2 → d4 ≡ write_at d3 0 (le16 n)
-    → (e ≡ length (read_indexes (decode s).plain)) × (d4 ≡ write_at d 0 (read_indexes (decode s).plain))
+pub indexes_put : (s d d' d'' : Octets) (e n : ℕ) → 2 ≤ length d
+    → e ≡ 2 + length (words (first_listed s 4)) → d' ≡ write_at d 2 (words (first_listed s 4)) → n ≡ (e - 2) / 2 → d'' ≡ write_at d' 0 (le16 n)
+    → (e ≡ length (read_indexes (decode s).plain)) × (d'' ≡ write_at d 0 (read_indexes (decode s).plain))
 unfolding four
-indexes_put s d d0 d1 d2 d3 d4 a b c e n two ea w0 eb w1 ec w2 ee w3 en w4 =
-    let l0 = listed s 0 in
-    let l1 = listed s 1 in
-    let l2 = listed s 2 in
-    let l3 = listed s 3 in
-    let f : four s ≡ ((l0 ++ l1) ++ l2) ++ l3 = simp append_assoc in
-    let k0 = length_words l0 in
-    let k1 = length_words l1 in
-    let k2 = length_words l2 in
-    let k3 = length_words l3 in
-    let m1 : length (words (l0 ++ l1)) ≡ length (words l0) + length (words l1) = rw (words_append l0 l1, length-append) in
-    let m2 : length (words ((l0 ++ l1) ++ l2)) ≡ length (words (l0 ++ l1)) + length (words l2) = rw (words_append (l0 ++ l1) l2, length-append) in
-    let m3 : length (words (((l0 ++ l1) ++ l2) ++ l3)) ≡ length (words ((l0 ++ l1) ++ l2)) + length (words l3) = rw
-    (words_append ((l0 ++ l1) ++ l2) l3, length-append) in
-    let m4 = length_words (((l0 ++ l1) ++ l2) ++ l3) in
-    let x1 : d1 ≡ write_at d 2 (words (l0 ++ l1)) = w1 ∙ rw w0 (next_index d 2 l0 l1 a ea) in
-    let x2 : d2 ≡ write_at d 2 (words ((l0 ++ l1) ++ l2)) = w2 ∙ rw x1 (next_index d 2 (l0 ++ l1) l2 b (omega arith)) in
-    let x3 : d3 ≡ write_at d 2 (words (((l0 ++ l1) ++ l2) ++ l3)) = w3 ∙ rw x2 (next_index d 2 ((l0 ++ l1) ++ l2) l3 c (omega arith)) in
-    let em : e ≡ 2 + length (words (((l0 ++ l1) ++ l2) ++ l3)) = omega arith in
-    let en' : n ≡ length (((l0 ++ l1) ++ l2) ++ l3) = half e n (length (words (((l0 ++ l1) ++ l2) ++ l3))) (length (((l0 ++ l1) ++ l2) ++ l3)) em m4 en in
-    let r : read_indexes (decode s).plain ≡ le16 n ++ words (((l0 ++ l1) ++ l2) ++ l3) = indexes_is s ∙ rw (f, en') in
-    let z = length_le16 n in
-    (rw (r, length-append, z) em, w4 ∙ rw (x3, r) (count_first d n (words (((l0 ++ l1) ++ l2) ++ l3)) two))
+indexes_put s d d' d'' e n two ee w en w' =
+    let l = first_listed s 4 in
+    let f : four s ≡ l = simp append_assoc in
+    let en' : n ≡ length l = half e n (length (words l)) (length l) ee (length_words l ∙ omega arith) en in
+    let r : read_indexes (decode s).plain ≡ le16 n ++ words l = indexes_is s ∙ rw (f, en') in
+    (rw (r, length-append, length_le16 n) ee, w' ∙ rw (w, r) (count_first d n (words l) two))
 
 -- the octets at the front are what was written there
 pub front_is : (d d' x : Octets) (n : ℕ) → n ≤ length d → n ≡ length x → d' ≡ write_at d 0 x → x ≡ take n d'

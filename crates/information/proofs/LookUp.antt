@@ -47,14 +47,6 @@ unfolding key_length rule_at table_rules uuid_rule
 key_fits zero l = lit≤ tt
 key_fits (suc k) l = rw (sym (key_of_device (suc k) (λ e. omega arith))) (size_least (suc k) l)
 
--- one of the six tables is asked for: the length of the key decides
-pub asked_table : (k : ℕ) (key : Octets) (n : ℕ) → k < 6 → n ≡ key_length k → eqb (length key) n ≡ (ltb k 6 && eqb (length key) (key_length k))
-asked_table k key n l e = rw (lt-ltb k 6 l, e)
-
--- none is
-pub asked_none : (k : ℕ) (key : Octets) → 6 ≤ k → false ≡ (ltb k 6 && eqb (length key) (key_length k))
-asked_none k key l = rw (le-ltb k 6 l)
-
 module _ (s : Octets) (i k : ℕ) (key : Octets) (place size : ℕ) (g : Ready s i) (l : k < 6) (n : length key ≡ key_length k) (ep : place ≡ table_place i k)
     (ez : size ≡ (rule_at k).size) where
   -- the table lies inside the state, and a key is as long as a record at most

@@ -36,14 +36,14 @@ fn general_reply(index: u64, code: u64, ps: &[u8], body: &[u8], reply: &mut [u8]
     requires { (Lengths.reply_buffer ≤ length reply.old) × (length body.now ≤ 1000) }
     ensures { Reply index code ps.now body.now result reply.old reply.new }
 {
-    if index == 0xFFFF {
-        if ps.len() == 0 {
-            replies::command_complete(reply, 0, index, code, 0, body);
-            return Answer::Done(9 + body.len());
-        }
+    if index != 0xFFFF {
+        return replies::refuse(reply, index, code, statuses::INVALID_INDEX);
+    }
+    if !ps.is_empty() {
         return replies::refuse(reply, index, code, statuses::INVALID_PARAMETERS);
     }
-    replies::refuse(reply, index, code, statuses::INVALID_INDEX)
+    replies::command_complete(reply, 0, index, code, 0, body);
+    Answer::Done(9 + body.len())
 }
 
 // 0x0001 Read Version: version 1, revision 10.
@@ -52,8 +52,7 @@ pub fn read_version(state: &[u8], index: u64, ps: &[u8], reply: &mut [u8]) -> An
     ensures { Gives (general_command state.now index Codes.read_version ps.now read_version) result reply.old reply.new
         state.now }
 {
-    let body: [u8; 3] = [1, 10, 0];
-    general_reply(index, codes::READ_VERSION, ps, &body, reply)
+    general_reply(index, codes::READ_VERSION, ps, &[1, 10, 0], reply)
 }
 
 // 0x0002 Read Commands: 22 commands and 12 events, then their codes, two octets each.
@@ -62,8 +61,7 @@ pub fn read_commands(state: &[u8], index: u64, ps: &[u8], reply: &mut [u8]) -> A
     ensures { Gives (general_command state.now index Codes.read_commands ps.now read_commands) result reply.old reply.new
         state.now }
 {
-    let body = COMMANDS;
-    general_reply(index, codes::READ_COMMANDS, ps, &body, reply)
+    general_reply(index, codes::READ_COMMANDS, ps, &COMMANDS, reply)
 }
 
 // Writes index i at the place `at` if it holds a controller. Returns the place behind.
@@ -85,12 +83,12 @@ fn list_indexes(state: &[u8], out: &mut [u8]) -> usize
     ensures { (result ≡ length (read_indexes (decode state.now).plain)) × (result ≤ 10)
         × (out.new ≡ write_at out.old 0 (read_indexes (decode state.now).plain)) }
 {
-    let a = list_index(state, 0, out, 2);
-    let b = list_index(state, 1, out, a);
-    let c = list_index(state, 2, out, b);
-    let d = list_index(state, 3, out, c);
-    octets::put16(out, 0, ((d - 2) / 2) as u64);
-    d
+    let mut end = 2;
+    for i in 0..4 {
+        end = list_index(state, i, out, end);
+    }
+    octets::put16(out, 0, ((end - 2) / 2) as u64);
+    end
 }
 
 // 0x0003 Read Indexes: the indexes that hold a controller, ascending.
@@ -110,23 +108,7 @@ pub fn set_local_name(state: &mut [u8], index: u64, ps: &[u8], reply: &mut [u8])
     ensures { Gives (immediate_command state.old index Codes.set_local_name ps.now set_local_name) result reply.old
         reply.new state.new }
 {
-    if ps.len() != 260 {
-        return replies::refuse(
-            reply,
-            index,
-            codes::SET_LOCAL_NAME,
-            statuses::INVALID_PARAMETERS,
-        );
-    }
-    if ps[248] != 0 {
-        return replies::refuse(
-            reply,
-            index,
-            codes::SET_LOCAL_NAME,
-            statuses::INVALID_PARAMETERS,
-        );
-    }
-    if ps[259] != 0 {
+    if ps.len() != 260 || ps[248] != 0 || ps[259] != 0 {
         return replies::refuse(
             reply,
             index,
@@ -150,12 +132,10 @@ pub fn tell_name(state: &[u8], index: u64, which: u64, reply: &mut [u8]) -> Answ
     requires { (state_ok state.now ≡ true) × (Lengths.reply_buffer ≤ length reply.old) }
     ensures { Gives (name_read state.now index which) result reply.old reply.new state.now }
 {
-    if layout::present(state, index) {
-        if which < 2 {
-            let name = layout::used_name(state, index, which);
-            octets::copy_into(reply, 0, name);
-            return Answer::Done(name.len());
-        }
+    if layout::present(state, index) && which < 2 {
+        let name = layout::used_name(state, index, which);
+        octets::copy_into(reply, 0, name);
+        return Answer::Done(name.len());
     }
     Answer::BadArgument
 }
@@ -164,20 +144,14 @@ pub fn tell_name(state: &[u8], index: u64, which: u64, reply: &mut [u8]) -> Answ
 fn key_length(k: u64) -> usize
     ensures { result ≡ key_length k }
 {
-    if k == 0 {
-        return 16;
-    }
-    7
+    if k == 0 { 16 } else { 7 }
 }
 
 // Whether k is one of the six tables, and the key as long as that table's keys are.
 fn asked_well(k: u64, key: &[u8]) -> bool
     ensures { result ≡ (ltb k 6 && eqb (length key.now) (key_length k)) }
 {
-    if k < 6 {
-        return key.len() == key_length(k);
-    }
-    false
+    k < 6 && key.len() == key_length(k)
 }
 
 // The look-up of a key in table k of the controller at an index: the one that the commands make.
@@ -185,9 +159,12 @@ fn look_up_in(state: &[u8], index: u64, k: usize, key: &[u8]) -> LookUp
     requires { Ready state.now index × (k < 6) × (length key.now ≡ key_length k) }
     ensures { LooksUp state.now index k key.now result }
 {
-    let place = layout::table_place(index, k);
-    let size = records::size_of(k);
-    table::look_up(state, place, size, key)
+    table::look_up(
+        state,
+        layout::table_place(index, k),
+        records::size_of(k),
+        key,
+    )
 }
 
 // A look-up that is refused: the number of the answer.
@@ -205,15 +182,12 @@ pub fn look_up(state: &[u8], index: u64, table: u64, key: &[u8]) -> LookUpReply
     requires { state_ok state.now ≡ true }
     ensures { result ≡ look_up_out table key.now (controller_at (decode state.now).plain index) }
 {
-    if layout::present(state, index) {
-        if asked_well(table, key) {
-            let u = look_up_in(state, index, table as usize, key);
-            return LookUpReply {
-                answer: 0,
-                extra: (u.slot + 256 * u.walked) as u64,
-            };
-        }
-        return refused_look_up(Answer::BadArgument);
+    if layout::present(state, index) && asked_well(table, key) {
+        let u = look_up_in(state, index, table as usize, key);
+        return LookUpReply {
+            answer: 0,
+            extra: (u.slot + 256 * u.walked) as u64,
+        };
     }
     refused_look_up(Answer::BadArgument)
 }
@@ -223,6 +197,7 @@ fn information_head(f: Hardware, current: u64, hints: u8) -> [u8; 14]
     ensures { result ≡ information_head f current hints }
 {
     let h = layout::hardware_head(f);
+    let settings = current.to_le_bytes();
     [
         h[0],
         h[1],
@@ -231,10 +206,10 @@ fn information_head(f: Hardware, current: u64, hints: u8) -> [u8; 14]
         h[4],
         h[5],
         h[6],
-        (current % 256) as u8,
-        (current / 256 % 256) as u8,
-        (current / 65536 % 256) as u8,
-        (current / 16777216 % 256) as u8,
+        settings[0],
+        settings[1],
+        settings[2],
+        settings[3],
         0,
         0,
         hints,
@@ -246,17 +221,13 @@ fn put_information(state: &[u8], index: u64, out: &mut [u8])
     requires { Ready state.now index × (length out.old ≡ 280) }
     ensures { out.new ≡ information_of (controller_of state.now index) }
 {
-    let m = layout::settings_at(state, index);
-    let f = layout::hardware_at(state, index);
-    let current = rules::current_settings(m);
-    let uuids = layout::table_place(index, 0);
-    let hints = table::or_octets(state, uuids, 17, 16);
-    let head = information_head(f, current, hints);
-    let address = f.public_address;
+    let hardware = layout::hardware_at(state, index);
+    let current = rules::current_settings(layout::settings_at(state, index));
+    let hints = table::or_octets(state, layout::table_place(index, 0), 17, 16);
     let name = layout::name_place(index);
-    octets::copy_into(out, 0, &address);
-    octets::copy_into(out, 6, &head);
-    octets::copy_part(out, 20, state, name, 260);
+    octets::copy_into(out, 0, &hardware.public_address);
+    octets::copy_into(out, 6, &information_head(hardware, current, hints));
+    octets::copy_into(out, 20, &state[name..name + 260]);
 }
 
 // 0x0004 Read Controller Information, 280 octets; the state is only read.
@@ -265,7 +236,7 @@ pub fn read_information(state: &[u8], index: u64, ps: &[u8], reply: &mut [u8]) -
     ensures { Gives (immediate_command state.now index Codes.read_information ps.now read_information) result reply.old
         reply.new state.now }
 {
-    if ps.len() != 0 {
+    if !ps.is_empty() {
         return replies::refuse(
             reply,
             index,

@@ -26,7 +26,7 @@ use Rattle.model.specs.Layout.{decode, encode, region}
 use Rattle.model.proofs.Model.Tables.{length_chop}
 use Rattle.model.specs.Tables.{rule_at}
 use Rattle.model.proofs.Model.Tests.{equal}
-use Rattle.octets.specs.Parts.{part, write_at}
+use Rattle.octets.specs.Parts.{write_at}
 use Rattle.table.proofs.Slots.{length_loaded, sized_loaded}
 use Rattle.layout.specs.Places.{Ready, controller_of, put_controller, table_place}
 use Rattle.layout.proofs.Tables.{table_fits, table_stored}
@@ -169,11 +169,6 @@ pub load_room : (i k place size : ℕ) (s : Octets) → length s ≡ Lengths.sta
     → place + (4 + size * 32) ≤ length s
 load_room i k place size s l h m ep ez = rw (ep, ez, l) (table_fits i k h m)
 
--- no return parameters
-no_parameters : (i code : ℕ) (ps : Octets) → command_complete i code 0 (part ps 0 0) ≡ command_complete i code 0 [] ++ []
-unfolding part
-no_parameters i code ps = rw append-nil
-
 module _ (s : Octets) (i code k at n : ℕ) (valid : Bool) (ps d d' : Octets) (r : Answer) (given : Ready s i) (big : Lengths.reply_buffer ≤ length d)
     (g : ListOf k at valid ps) (en : n ≡ u16 ps at) where
   -- the controller that the list is for
@@ -262,7 +257,7 @@ module _ (s : Octets) (i code k at n : ℕ) (valid : Bool) (ps d d' : Octets) (r
     -- all checks pass: the list is in its table, and the answer is Command Complete
     pub list_loads : q ≡ true → (s' : Octets) (place size : ℕ) → place ≡ table_place i k → size ≡ (rule_at k).size
         → s' ≡ write_at s place (region size (loaded (chop size n (drop (at + 2) ps)))) → r ≡ Done 9 → d' ≡ write_at d 0
-        (command_complete i code 0 (part ps 0 0))
+        (command_complete i code 0 [])
         → Gives (immediate_command s i code ps (load_keys (key_list k))) r d d' s'
     list_loads o s' place size ep ez es m w =
         let a = act_loads (key_list k) i here ps (past ∙ passes_none ((key_list k).rule.support here.radio.hardware) (support_is ∙ o)) in
@@ -274,7 +269,7 @@ module _ (s : Octets) (i code k at n : ℕ) (valid : Bool) (ps d d' : Octets) (r
         es ∙ rw (ep, ez) (table_stored s i given k (omega (arith, g.most)) (loaded list) long (sized_loaded (rule_at k).size n ps (at + 2) inside)) in
         immediate_done_lem s i code ps (load_keys (key_list k)) d d' r given big (list_sized k at valid ps g) s' [] []
         (with_table here.host k (loaded list)) 9 b m
-        (rw append-nil (length_complete i code 0 [])) (omega arith) (w ∙ rw (no_parameters i code ps)) st
+        (rw append-nil (length_complete i code 0 [])) (omega arith) (w ∙ rw append-nil) st
 
 -- 5. The three commands ---------------------------------------------------------------------------------------------------------------------------------
 

@@ -26,8 +26,11 @@ use Rattle.model.specs.Layout.{decode, encode, region}
 use Rattle.model.proofs.Model.Parts.{table_changed}
 use Rattle.model.specs.Tables.{rule_at}
 use Rattle.model.proofs.Model.Tables.{freed_ok, length_freed}
-use Rattle.octets.specs.Parts.{part, write_at}
-use Rattle.table.specs.Slots.{Canonical, first_at, table_at}
+use Rattle.octets.specs.Parts.{write_at}
+use Rattle.std.proofs.Common.{Option}
+use Rattle.std.specs.Option.{is_some}
+use Rattle.table.specs.Slots.{Canonical, IsSlot, first_at, table_at}
+use Rattle.table.proofs.Laws.{told_some}
 use Rattle.table.proofs.Slots.{holds_first, sized_freed}
 use Rattle.layout.specs.Places.{Ready, controller_of, put_controller, table_place}
 use Rattle.layout.proofs.Change.{controller_fine}
@@ -59,8 +62,8 @@ module _ (s : Octets) (i k : ℕ) (ps : Octets) (place size : ℕ) (g : Ready s 
   table_canonical = rw table_here (rw (ep, ez) (region_at s i g k l))
 
   -- whether a key is found
-  pub key_found : (f : ℕ) → f ≡ first_at (begins 7 ps) (table_at s place size) → ltb f 32 ≡ holds (begins 7 ps) table
-  key_found f e = sym (holds_first (begins 7 ps) table ∙ rw (table_long s i g k l, e, table_here))
+  pub key_found : (r : Option ℕ) → IsSlot r (first_at (begins 7 ps) (table_at s place size)) → is_some r ≡ holds (begins 7 ps) table
+  key_found r e = told_some r _ e ∙ sym (holds_first (begins 7 ps) table ∙ rw (table_long s i g k l, table_here))
 
   -- the keys released
   pub keys_gone : (t : Octets) → t ≡ write_at s place (region size (freed (begins 7 ps) (table_at s place size))) → Forgets s i k ps t
@@ -135,10 +138,9 @@ three_gone s i ps a b t x y z =
 -- 3. The reply ------------------------------------------------------------------------------------------------------------------------------------------
 
 -- Command Complete, then Device Unpaired
-pub unpaired_reply : (d : Octets) (i : ℕ) (ps b e : Octets) → 7 ≤ length ps → b ≡ write_at d 0 (command_complete i Codes.unpair_device 0 (part ps 0 7))
-    → e ≡ write_at b 16 (event Events.device_unpaired i (part ps 0 7))
+pub unpaired_reply : (d : Octets) (i : ℕ) (ps b e : Octets) → 7 ≤ length ps → b ≡ write_at d 0 (command_complete i Codes.unpair_device 0 (take 7 ps))
+    → e ≡ write_at b 16 (event Events.device_unpaired i (take 7 ps))
     → e ≡ write_at d 0 (command_complete i Codes.unpair_device 0 (take 7 ps) ++ event Events.device_unpaired i (take 7 ps))
-unfolding part
 unpaired_reply d i ps b e l eb ee =
     let n : length (command_complete i Codes.unpair_device 0 (take 7 ps)) ≡ 16 = length_complete i Codes.unpair_device 0 (take 7 ps)
     ∙ rw (length-take-le 7 ps l) in

@@ -16,7 +16,7 @@ use Rattle.model.specs.Advertising.{Advertising}
 use Rattle.model.specs.State.{Controller, Hub, OpenCommand, Table, hardware_ok, settings_of, with_controller}
 use Rattle.model.specs.Tables.{TableRule, blocked_rule, device_rule, identity_key_rule, link_key_rule, long_term_key_rule, table_rules, uuid_rule}
 use Rattle.model.specs.Image.{radio_ok}
-use Rattle.model.specs.WellFormed.{advertising_ok, controller_ok, plain_ok, slot_is_ok, slots_ok, table_ok, tables_ok, well_formed}
+use Rattle.model.specs.WellFormed.{advertising_ok, controller_ok, slot_is_ok, slots_ok, table_ok, tables_ok, well_formed}
 use Rattle.model.specs.Layout.{advertising_part, data_part, schedule_part}
 use Rattle.model.specs.Layout.{block, blocks, controller_part, encode, hardware_part, open_part, region, regions, settings_part, waiting_part}
 use Rattle.model.proofs.Model.Decode.{length_region}

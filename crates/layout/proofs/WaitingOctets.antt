@@ -3,23 +3,21 @@ use Prim.Native.Nat.{ℕ, zero, suc, ◌+◌, ◌-◌, ◌*◌, ◌≤◌, ◌<�
 use native.Mathlib.Omega.{arith}
 use native.Mathlib.Nat.{add-zero}
 use mathlib.Core.Path.{◌≡◌, refl, sym, ap, ◌∙◌}
-use mathlib.Core.Bool.{Bool, true, false}
+use mathlib.Core.Bool.{true}
 use mathlib.Core.List.{[], ◌∷◌, ◌++◌, append_assoc, append-nil}
-use lib.ListN.{length, get_or, take, drop, replicate, length-append, length-drop, length-replicate, length-take, get_or-append, get_or-eq_default}
+use lib.ListN.{length, get_or, take, drop, replicate, length-append, length-replicate, length-take, get_or-append, get_or-eq_default}
 use lib.ListN.{drop_of_length-le}
-use lib.Seq.{sets-eq, get_or-append-add, get_or-drop, get_or-take, length-take-le, take-add, take_at, take_all, drop_at, drop-drop}
-use lib.Dec.{ltb, leb, lit≤}
-use borrow.Author.Tests.{le-ltb, lt-ltb, leb-true, leb-false}
+use lib.Seq.{sets-eq, get_or-append-add, get_or-drop, get_or-take, length-take-le, take-add, take_at, drop_at, drop-drop}
+use lib.Dec.{lit≤}
 use Rattle.model.specs.Lengths as Lengths
 use Rattle.model.specs.Octets.{Octets, le32, u16, u32}
 use Rattle.model.specs.State.{Hub, Waiting, with_waiting}
 use Rattle.model.specs.Stream.{grown, kept_count, length_said, waiting_at}
-use Rattle.model.specs.WellFormed.{plain_ok}
 use Rattle.model.specs.Layout.{decode, encode, line_cleared, waiting_back, waiting_part}
 use Rattle.model.specs.Meanings.{state_ok}
 use Rattle.model.proofs.Model.Demand3.{state_back, state_well}
 use Rattle.model.proofs.Model.Keeps.{well_fit}
-use Rattle.model.proofs.Model.Layout.{before, encode_split, length_before, length_waiting}
+use Rattle.model.proofs.Model.Layout.{before, encode_split, length_before}
 use Rattle.model.proofs.Model.WaitingOctets.{WaitingFit, count_few, count_head, count_more, count_room, count_whole, kept_count_lem, kept_fits, padded, waiting_fit}
 use Rattle.octets.specs.Parts.{part, write_at}
 use Rattle.octets.proofs.Parts.{write_front, write_left, write_right, write_split, write_whole}

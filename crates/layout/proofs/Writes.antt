@@ -1,9 +1,9 @@
 -- The advertising written part by part over plain octets: several writes behind one another are one.
 use mathlib.Core.Path.{◌≡◌, refl, ap, sym, ◌∙◌}
-use Prim.Native.Nat.{ℕ, zero, suc, ◌+◌, ◌-◌, ◌*◌, ◌≤◌}
+use Prim.Native.Nat.{ℕ, zero, suc, ◌+◌, ◌-◌, ◌*◌, ◌≤◌, ◌<◌}
+use Rattle.std.proofs.Common.{add-zero}
 use native.Mathlib.Omega.{arith}
-use mathlib.Core.Bool.{true, false, ◌&&◌, not}
-use mathlib.Core.List.{List, [], ◌∷◌, ◌++◌}
+use mathlib.Core.List.{List, [], ◌∷◌, ◌++◌, append-nil}
 use lib.ListN.{length, get_or, take, drop, replicate}
 use borrow.Author.Tests.{eq-eqb, ne_eqb}
 use Rattle.model.specs.declared.Schedule.{Schedule}
@@ -12,9 +12,8 @@ use Rattle.model.specs.Octets.{Octets, le16}
 use Rattle.model.specs.Commands.{words}
 use Rattle.model.specs.Layout.{data_back, data_part, schedule_part, settings_part}
 use Rattle.model.proofs.Model.Layout.{length_words}
-use Rattle.model.proofs.Model.Tests.{Five, five, five_of}
 use Rattle.octets.specs.Parts.{part, write_at}
-use Rattle.octets.proofs.Parts.{drop_take, get_d_part, part_part, write_split}
+use Rattle.octets.proofs.Parts.{get_d_part, part_part, write_split}
 use Rattle.layout.specs.Places.{settings_head}
 use Rattle.layout.specs.Advertising.{cleared_slot, cleared_slots}
 
@@ -25,34 +24,16 @@ behind_number : (s : Octets) (at n : ℕ) (t : Octets) → write_at s at (le16 n
 unfolding le16
 behind_number s at n t = write_split s at (le16 n) t
 
--- five numbers, one behind the other
-five_written : (s : Octets) (at a b c d e : ℕ)
-    → write_at (write_at (write_at (write_at (write_at s at (le16 a)) (at + 2) (le16 b)) (at + 4) (le16 c)) (at + 6) (le16 d)) (at + 8) (le16 e)
-    ≡ write_at s at (words (a ∷ b ∷ c ∷ d ∷ e ∷ []))
-unfolding words le16
-five_written s at a b c d e =
-    let e4 : at + 4 ≡ at + 2 + 2 = omega arith in
-    let e6 : at + 6 ≡ at + 2 + 2 + 2 = omega arith in
-    let e8 : at + 8 ≡ at + 2 + 2 + 2 + 2 = omega arith in
-    let v = words (e ∷ []) in
-    let w = words (d ∷ e ∷ []) in
-    let x = words (c ∷ d ∷ e ∷ []) in
-    let y = words (b ∷ c ∷ d ∷ e ∷ []) in
-    let p = write_at s at (le16 a) in
-    let q = write_at p (at + 2) (le16 b) in
-    let r = write_at q (at + 2 + 2) (le16 c) in
-    rw (e8, e6, e4) (sym (behind_number s at a y ∙ behind_number p (at + 2) b x ∙ behind_number q (at + 2 + 2) c w ∙ behind_number r (at + 2 + 2 + 2) d v))
-
--- a list of five numbers, each written at its place
-pub five_put : (s : Octets) (at : ℕ) (l : List ℕ) → length l ≡ 5
-    → write_at (write_at (write_at (write_at (write_at s at (le16 (get_or l 0 0))) (at + 2) (le16 (get_or l 1 0))) (at + 4) (le16 (get_or l 2 0))) (at + 6)
-    (le16 (get_or l 3 0))) (at + 8) (le16 (get_or l 4 0)) ≡ write_at s at (words l)
-five_put s at l n = go l (five_of l n)
-  where
-    go : (l : List ℕ) → Five l
-        → write_at (write_at (write_at (write_at (write_at s at (le16 (get_or l 0 0))) (at + 2) (le16 (get_or l 1 0))) (at + 4) (le16 (get_or l 2 0))) (at + 6)
-        (le16 (get_or l 3 0))) (at + 8) (le16 (get_or l 4 0)) ≡ write_at s at (words l)
-    go l (five a b c d e) = five_written s at a b c d e
+-- one number more, behind those that are written
+pub word_more : (s : Octets) (at : ℕ) (l : List ℕ) (k : ℕ) → k < length l
+    → write_at (write_at s at (words (take k l))) (at + 2 * k) (le16 (get_or l k 0)) ≡ write_at s at (words (take (suc k) l))
+unfolding words write_at
+word_more s at [] k h = absurd (omega (arith, h))
+word_more s at (x ∷ xs) zero h = rw (append-nil, add-zero)
+word_more s at (x ∷ xs) (suc k) h =
+    let e : at + 2 * suc k ≡ at + 2 + 2 * k = omega arith in
+    rw (behind_number s at x (words (take k xs)), e, word_more (write_at s at (le16 x)) (at + 2) xs k (omega (arith, h)))
+    (sym (behind_number s at x (words (take (suc k) xs))))
 
 -- a schedule: durations, timeouts, the instance on air, the seconds left
 pub schedule_put : (s : Octets) (at : ℕ) (t : Schedule) → length t.durations ≡ 5 → length t.timeouts ≡ 5
@@ -134,23 +115,13 @@ pub slot_absent : (s : Octets) (at b d : ℕ) → b ≡ 0 → s ≡ cleared_slot
 unfolding cleared_slot
 slot_absent s at b d e = rw (eq-eqb b 0 e, cleared_slot)
 
--- five instances, each at its place
-pub slots_cleared : (s : Octets) (at : ℕ) (bs ds : List ℕ) → length bs ≡ 5 → length ds ≡ 5
-    → cleared_slot (cleared_slot (cleared_slot (cleared_slot (cleared_slot s at (get_or bs 0 0) (get_or ds 0 0)) (at + 32) (get_or bs 1 0) (get_or ds 1 0)) (at + 64)
-    (get_or bs 2 0) (get_or ds 2 0)) (at + 96) (get_or bs 3 0) (get_or ds 3 0)) (at + 128) (get_or bs 4 0) (get_or ds 4 0) ≡ cleared_slots s at bs ds
+-- one instance more is cleared, behind those before it
+pub slot_more : (s : Octets) (at : ℕ) (bs ds : List ℕ) (k : ℕ) → k < length bs → k < length ds
+    → cleared_slot (cleared_slots s at (take k bs) (take k ds)) (at + 32 * k) (get_or bs k 0) (get_or ds k 0) ≡ cleared_slots s at (take (suc k) bs) (take (suc k) ds)
 unfolding cleared_slots
-slots_cleared s at bs ds n m = go bs ds (five_of bs n) (five_of ds m)
-  where
-    e64 : at + 64 ≡ at + 32 + 32
-    e64 = omega arith
-
-    e96 : at + 96 ≡ at + 32 + 32 + 32
-    e96 = omega arith
-
-    e128 : at + 128 ≡ at + 32 + 32 + 32 + 32
-    e128 = omega arith
-
-    go : (bs ds : List ℕ) → Five bs → Five ds
-        → cleared_slot (cleared_slot (cleared_slot (cleared_slot (cleared_slot s at (get_or bs 0 0) (get_or ds 0 0)) (at + 32) (get_or bs 1 0) (get_or ds 1 0)) (at + 64)
-        (get_or bs 2 0) (get_or ds 2 0)) (at + 96) (get_or bs 3 0) (get_or ds 3 0)) (at + 128) (get_or bs 4 0) (get_or ds 4 0) ≡ cleared_slots s at bs ds
-    go bs ds (five a b c d e) (five f g h i j) = rw (e64, e96, e128)
+slot_more s at [] ds k h m = absurd (omega (arith, h))
+slot_more s at (b ∷ bs) [] k h m = absurd (omega (arith, m))
+slot_more s at (b ∷ bs) (d ∷ ds) zero h m = rw add-zero
+slot_more s at (b ∷ bs) (d ∷ ds) (suc k) h m =
+    let e : at + 32 * suc k ≡ at + 32 + 32 * k = omega arith in
+    rw (e, slot_more (cleared_slot s at b d) (at + 32) bs ds k (omega (arith, h)) (omega (arith, m)))

@@ -28,7 +28,7 @@ fn block_place(i: u64) -> usize
     requires { i < 4 }
     ensures { result ≡ base i }
 {
-    4 + lengths::BLOCK * (i as usize)
+    4 + lengths::BLOCK * i as usize
 }
 
 // Where the open command of index i lies: its code in two octets, then its parameters.
@@ -53,12 +53,11 @@ pub fn used_name(s: &[u8], i: u64, which: u64) -> &[u8]
     ensures { (result.now ≡ used_part (name_part which (controller_of s.now i).host.name)) × (length result.now ≤ 249) }
 {
     let at = name_place(i);
-    let mid = at + 249;
-    let end = at + 260;
     if which == 0 {
-        return octets::used_part(&s[at..mid]);
+        octets::used_part(&s[at..at + 249])
+    } else {
+        octets::used_part(&s[at + 249..at + 260])
     }
-    octets::used_part(&s[mid..end])
 }
 
 // Where table k of index i lies, in the model's order of the tables.
@@ -75,11 +74,7 @@ pub fn present(s: &[u8], i: u64) -> bool
     requires { length s.now ≡ Lengths.state }
     ensures { result ≡ present_at s.now i }
 {
-    if i < 4 {
-        let b = block_place(i);
-        return s[b] == 1;
-    }
-    false
+    i < 4 && s[block_place(i)] == 1
 }
 
 // What plug gave the controller at index i.
@@ -88,14 +83,11 @@ pub fn hardware_at(s: &[u8], i: u64) -> Hardware
     ensures { result ≡ (controller_of s.now i).radio.hardware }
 {
     let b = block_place(i);
-    let public_address = octets::six(s, b + places::PUBLIC_ADDRESS);
-    let manufacturer = octets::u16_at(s, b + places::MANUFACTURER) as u16;
-    let supported = octets::u32_at(s, b + places::SUPPORTED) as u32;
     Hardware {
-        public_address,
+        public_address: octets::six(s, b + places::PUBLIC_ADDRESS),
         version: s[b + places::VERSION],
-        manufacturer,
-        supported,
+        manufacturer: octets::u16_at(s, b + places::MANUFACTURER) as u16,
+        supported: octets::u32_at(s, b + places::SUPPORTED) as u32,
     }
 }
 
@@ -105,26 +97,23 @@ pub fn settings_at(s: &[u8], i: u64) -> Settings
     ensures { result ≡ settings_of (controller_of s.now i) }
 {
     let b = block_place(i);
-    let hardware = hardware_at(s, i);
-    let static_address = octets::six(s, b + places::STATIC_ADDRESS);
-    let seconds = octets::u16_at(s, b + places::TIMER) as u16;
-    let radio = RadioSettings {
-        hardware,
-        powered: s[b + places::POWERED] == 1,
-        connectable: s[b + places::CONNECTABLE] == 1,
-        bredr: s[b + places::BREDR] == 1,
-        low_energy: s[b + places::LOW_ENERGY] == 1,
-        static_address,
-    };
-    let timer = Timer {
-        discoverable: s[b + places::DISCOVERABLE] == 1,
-        seconds,
-    };
-    let host = HostSettings {
-        timer,
-        bondable: s[b + places::BONDABLE] == 1,
-    };
-    Settings { radio, host }
+    Settings {
+        radio: RadioSettings {
+            hardware: hardware_at(s, i),
+            powered: s[b + places::POWERED] == 1,
+            connectable: s[b + places::CONNECTABLE] == 1,
+            bredr: s[b + places::BREDR] == 1,
+            low_energy: s[b + places::LOW_ENERGY] == 1,
+            static_address: octets::six(s, b + places::STATIC_ADDRESS),
+        },
+        host: HostSettings {
+            timer: Timer {
+                discoverable: s[b + places::DISCOVERABLE] == 1,
+                seconds: octets::u16_at(s, b + places::TIMER) as u16,
+            },
+            bondable: s[b + places::BONDABLE] == 1,
+        },
+    }
 }
 
 // A flag as an octet.
@@ -138,17 +127,17 @@ fn flag_octet(b: bool) -> u8
 fn settings_head(m: Settings) -> [u8; 8]
     ensures { result ≡ settings_head m }
 {
-    let r = m.radio;
-    let h = m.host;
-    let t = h.timer;
-    let n = t.seconds;
-    let p = flag_octet(r.powered);
-    let k = flag_octet(r.connectable);
-    let d = flag_octet(t.discoverable);
-    let b = flag_octet(h.bondable);
-    let e = flag_octet(r.bredr);
-    let l = flag_octet(r.low_energy);
-    [p, k, d, b, e, l, (n % 256) as u8, (n / 256 % 256) as u8]
+    let seconds = m.host.timer.seconds.to_le_bytes();
+    [
+        flag_octet(m.radio.powered),
+        flag_octet(m.radio.connectable),
+        flag_octet(m.host.timer.discoverable),
+        flag_octet(m.host.bondable),
+        flag_octet(m.radio.bredr),
+        flag_octet(m.radio.low_energy),
+        seconds[0],
+        seconds[1],
+    ]
 }
 
 // Writes the settings of m from a place on.
@@ -156,11 +145,8 @@ fn write_settings(s: &mut [u8], at: usize, m: Settings)
     requires { (at + 14 ≤ length s.old) × (length m.radio.static_address ≡ 6) }
     ensures { s.new ≡ write_at s.old at (settings_part m) }
 {
-    let a = settings_head(m);
-    let r = m.radio;
-    let static_address = r.static_address;
-    octets::copy_into(s, at, &a);
-    octets::copy_into(s, at + 8, &static_address);
+    octets::copy_into(s, at, &settings_head(m));
+    octets::copy_into(s, at + 8, &m.radio.static_address);
 }
 
 // Gives the controller at index i the settings of m; its hardware stays.
@@ -172,7 +158,7 @@ pub fn put_settings(s: &mut [u8], i: u64, m: Settings)
     write_settings(s, b + places::POWERED, m);
 }
 
-// The code of the command under way at index i, 0 where there is none.
+// The code of the command under way at index i, 0 where there is none: the number that lies in the state, where no command has code 0.
 pub fn open_code(s: &[u8], i: u64) -> u64
     requires { (length s.now ≡ Lengths.state) × (i < 4) }
     ensures { result ≡ u16 s.now (place_of i 1) }
@@ -215,7 +201,7 @@ pub fn put_clock(s: &mut [u8], v: u32)
     requires { state_ok s.old ≡ true }
     ensures { s.new ≡ encode (with_clock (decode s.old) v) }
 {
-    octets::put32(s, 0, v as u64);
+    octets::put32(s, 0, u64::from(v));
 }
 
 // Gives the controller at index i the name and short name of ps.
@@ -241,16 +227,16 @@ pub fn empty_block(s: &mut [u8], i: u64)
 pub fn hardware_head(f: Hardware) -> [u8; 7]
     ensures { result ≡ hardware_head f }
 {
-    let m = f.manufacturer;
-    let n = f.supported;
+    let manufacturer = f.manufacturer.to_le_bytes();
+    let supported = f.supported.to_le_bytes();
     [
         f.version,
-        (m % 256) as u8,
-        (m / 256 % 256) as u8,
-        (n % 256) as u8,
-        (n / 256 % 256) as u8,
-        (n / 65536 % 256) as u8,
-        (n / 16777216 % 256) as u8,
+        manufacturer[0],
+        manufacturer[1],
+        supported[0],
+        supported[1],
+        supported[2],
+        supported[3],
     ]
 }
 
@@ -258,9 +244,10 @@ pub fn hardware_head(f: Hardware) -> [u8; 7]
 fn transports(f: Hardware) -> [u8; 2]
     ensures { result ≡ transports_of f }
 {
-    let e = flag_octet(rules::bredr_supported(f));
-    let l = flag_octet(rules::le_supported(f));
-    [e, l]
+    [
+        flag_octet(rules::bredr_supported(f)),
+        flag_octet(rules::le_supported(f)),
+    ]
 }
 
 // Fills the block of the absent index i, which is zero, with a controller of the hardware f: BR/EDR and Low Energy are on where they
@@ -270,13 +257,10 @@ pub fn fill_block(s: &mut [u8], i: u64, f: Hardware)
     ensures { s.new ≡ encode (put_controller (decode s.old) i (plugged f)) }
 {
     let b = block_place(i);
-    let h = hardware_head(f);
-    let a = f.public_address;
-    let on = transports(f);
     octets::put8(s, b, 1);
-    octets::copy_into(s, b + places::VERSION, &h);
-    octets::copy_into(s, b + places::PUBLIC_ADDRESS, &a);
-    octets::copy_into(s, b + places::BREDR, &on);
+    octets::copy_into(s, b + places::VERSION, &hardware_head(f));
+    octets::copy_into(s, b + places::PUBLIC_ADDRESS, &f.public_address);
+    octets::copy_into(s, b + places::BREDR, &transports(f));
 }
 
 // Advertising
@@ -286,12 +270,13 @@ fn five_at(s: &[u8], at: usize) -> [u16; 5]
     requires { at + 10 ≤ length s.now }
     ensures { result ≡ five_from s.now at }
 {
-    let a = octets::u16_at(s, at) as u16;
-    let b = octets::u16_at(s, at + 2) as u16;
-    let c = octets::u16_at(s, at + 4) as u16;
-    let d = octets::u16_at(s, at + 6) as u16;
-    let e = octets::u16_at(s, at + 8) as u16;
-    [a, b, c, d, e]
+    [
+        octets::u16_at(s, at) as u16,
+        octets::u16_at(s, at + 2) as u16,
+        octets::u16_at(s, at + 4) as u16,
+        octets::u16_at(s, at + 6) as u16,
+        octets::u16_at(s, at + 8) as u16,
+    ]
 }
 
 // The turns of the advertising of the controller at index i.
@@ -300,14 +285,11 @@ pub fn schedule_at(s: &[u8], i: u64) -> Schedule
     ensures { result ≡ (controller_of s.now i).host.advertising.schedule }
 {
     let b = block_place(i);
-    let durations = five_at(s, b + places::ADVERTISING);
-    let timeouts = five_at(s, b + places::TIMEOUTS);
-    let left = octets::u16_at(s, b + places::LEFT) as u16;
     Schedule {
-        durations,
-        timeouts,
+        durations: five_at(s, b + places::ADVERTISING),
+        timeouts: five_at(s, b + places::TIMEOUTS),
         on_air: s[b + places::ON_AIR],
-        left,
+        left: octets::u16_at(s, b + places::LEFT) as u16,
     }
 }
 
@@ -316,16 +298,9 @@ fn write_five(s: &mut [u8], at: usize, l: [u16; 5])
     requires { at + 10 ≤ length s.old }
     ensures { s.new ≡ write_at s.old at (words l) }
 {
-    let a = l[0] as u64;
-    let b = l[1] as u64;
-    let c = l[2] as u64;
-    let d = l[3] as u64;
-    let e = l[4] as u64;
-    octets::put16(s, at, a);
-    octets::put16(s, at + 2, b);
-    octets::put16(s, at + 4, c);
-    octets::put16(s, at + 6, d);
-    octets::put16(s, at + 8, e);
+    for k in 0..5 {
+        octets::put16(s, at + 2 * k, u64::from(l[k]));
+    }
 }
 
 // Writes a schedule from a place on.
@@ -333,12 +308,10 @@ fn write_schedule(s: &mut [u8], at: usize, t: Schedule)
     requires { at + 23 ≤ length s.old }
     ensures { (s.new ≡ write_at s.old at (schedule_part t)) × (length t.durations ≡ 5) × (length t.timeouts ≡ 5) }
 {
-    let durations = t.durations;
-    let timeouts = t.timeouts;
-    write_five(s, at, durations);
-    write_five(s, at + 10, timeouts);
+    write_five(s, at, t.durations);
+    write_five(s, at + 10, t.timeouts);
     octets::put8(s, at + 20, t.on_air);
-    octets::put16(s, at + 21, t.left as u64);
+    octets::put16(s, at + 21, u64::from(t.left));
 }
 
 // Clears the data at a place, of an instance that was there before and no longer is.
@@ -346,10 +319,8 @@ fn clear_slot(s: &mut [u8], at: usize, before: u16, after: u16)
     requires { at + 32 ≤ length s.old }
     ensures { s.new ≡ cleared_slot s.old at before after }
 {
-    if before != 0 {
-        if after == 0 {
-            octets::zero_fill(s, at, 32);
-        }
+    if before != 0 && after == 0 {
+        octets::zero_fill(s, at, 32);
     }
 }
 
@@ -358,11 +329,9 @@ fn clear_slots(s: &mut [u8], at: usize, before: [u16; 5], after: [u16; 5])
     requires { at + 160 ≤ length s.old }
     ensures { s.new ≡ cleared_slots s.old at before after }
 {
-    clear_slot(s, at, before[0], after[0]);
-    clear_slot(s, at + 32, before[1], after[1]);
-    clear_slot(s, at + 64, before[2], after[2]);
-    clear_slot(s, at + 96, before[3], after[3]);
-    clear_slot(s, at + 128, before[4], after[4]);
+    for k in 0..5 {
+        clear_slot(s, at + 32 * k, before[k], after[k]);
+    }
 }
 
 // Gives the controller at index i the settings of m and the turns of t, where it had those of `old`; data of instances that went are cleared.
@@ -372,12 +341,10 @@ pub fn put_turns(s: &mut [u8], i: u64, m: Settings, old: Schedule, t: Schedule)
         (with_turns (with_settings (controller_of s.old i) m) t)) }
 {
     let b = block_place(i);
-    let before = old.durations;
-    let after = t.durations;
     write_settings(s, b + places::POWERED, m);
     write_schedule(s, b + places::ADVERTISING, t);
-    clear_slots(s, b + places::ADV_DATA, before, after);
-    clear_slots(s, b + places::SCAN_RSP, before, after);
+    clear_slots(s, b + places::ADV_DATA, old.durations, t.durations);
+    clear_slots(s, b + places::SCAN_RSP, old.durations, t.durations);
 }
 
 // Writes the data of an instance at a place: their length, the data, zeros behind them.

@@ -33,10 +33,8 @@ pub fn kept_said(s: &[u8]) -> usize
 pub fn kept_count(n: usize, said: usize) -> usize
     ensures { (o : Octets) → length_said o ≡ said → result ≡ kept_count n o }
 {
-    if lengths::LONGEST_KEPT < said {
-        if lengths::LONG_HEAD < n {
-            return lengths::LONG_HEAD;
-        }
+    if lengths::LONGEST_KEPT < said && lengths::LONG_HEAD < n {
+        return lengths::LONG_HEAD;
     }
     n
 }
@@ -47,10 +45,10 @@ fn octet_in(s: &[u8], n: usize, lump: &[u8], k: usize) -> u64
     ensures { (result ≡ get_or ((decode s.now).waiting.kept ++ lump.now) k 0) × (result < 256) }
 {
     if k < n {
-        return octets::wide(s[KEPT + k]);
+        return u64::from(s[KEPT + k]);
     }
     if k - n < lump.len() {
-        return octets::wide(lump[k - n]);
+        return u64::from(lump[k - n]);
     }
     0
 }
@@ -76,7 +74,7 @@ pub fn grow(s: &mut [u8], said: usize, lump: &[u8])
     let before = kept_count(n, said);
     let after = kept_count(n + lump.len(), said);
     octets::put32(s, lengths::BLOCKS_END, (n + lump.len()) as u64);
-    octets::copy_part(s, KEPT + before, lump, 0, after - before);
+    octets::copy_into(s, KEPT + before, &lump[..after - before]);
 }
 
 // Writes what is kept of a packet of this length to the front of a buffer: those kept before, and behind them those of the lump.
@@ -88,8 +86,8 @@ pub fn gather(out: &mut [u8], s: &[u8], said: usize, lump: &[u8])
     let n = taken(s);
     let before = kept_count(n, said);
     let after = kept_count(n + lump.len(), said);
-    octets::copy_part(out, 0, s, KEPT, before);
-    octets::copy_part(out, before, lump, 0, after - before);
+    octets::copy_into(out, 0, &s[KEPT..KEPT + before]);
+    octets::copy_into(out, before, &lump[..after - before]);
 }
 
 // Nothing waits any more.

@@ -8,8 +8,9 @@ use mathlib.Core.Bool.{Bool, true, false, ◌&&◌, not}
 use mathlib.Core.List.{List, [], ◌∷◌, ◌++◌, map, append-nil, append_assoc}
 use lib.ListN.{length, get_or, take, drop, set, length-set, length-take, length-drop, drop_of_length-le}
 use lib.Dec.{eqb}
-use lib.Seq.{drop-cons, drop-drop, get_or-take, take-suc-set}
-use borrow.Author.Tests.{eq-eqb, ne_eqb}
+use lib.Seq.{drop-cons, drop-drop, take-suc-set, take_all}
+use Rattle.std.specs.List.{list_any}
+use borrow.Author.Tests.{eq-eqb, ne_eqb, eqb-true, eqb-false}
 use Rattle.model.specs.Octets.{Octets}
 use Rattle.model.specs.Reasons.{passes}
 use Rattle.model.specs.Tables.{TableRule, blocked_rule, chop, device_rule, distinct, identity_key_rule, link_key_rule, long_term_key_rule, table_rules}
@@ -85,12 +86,6 @@ pub record Reached (k : ℕ) (s : Octets) (from n i : ℕ) (l : List ℕ) : Type
   pub long : length l ≡ 32
   pub told : kept_from k s (place_at k from i) (n - i) ≡ kept_from k s from n
   pub words : take i l ++ words_from k s (place_at k from i) (n - i) ≡ words_from k s from n
-
--- at the start all are left
-pub reached_start : (k : ℕ) (s : Octets) (from n : ℕ) (l : List ℕ) → length l ≡ 32 → Reached k s from n 0 l
-reached_start k s from n l e =
-    let p : place_at k from 0 ≡ from = sym (place_start k from) in
-    record { most = omega arith; long = e; told = rw (p, sub-zero); words = rw (p, sub-zero) }
 
 module _ (k : ℕ) (s : Octets) (from n i : ℕ) (l : List ℕ) (h : Reached k s from n i l) where
   -- at the end none is left: all pass, and all words are there
@@ -196,59 +191,47 @@ list_tells k s from n r d low z l inside octets h t ed =
 
 -- 4. Repeats ----------------------------------------------------------------------------------------------------------------------------------
 
--- the identities of the words from number i on, up to n
-abbrev pub behind : (low : List ℕ) (n i : ℕ) → List Identity
-behind low n i = map key_identity (drop i (take n low))
-
--- the word at i, and those behind it
-behind_cons : (low : List ℕ) (n i : ℕ) → i < n → n ≤ length low → behind low n i ≡ key_identity (get_or low i 0) ∷ behind low n (i + 1)
-behind_cons low n i l h =
-    let e : i < length (take n low) = rw length-take (omega arith) in
-    rw (add-one, drop-cons (take n low) i 0 e, get_or-take n low i 0 l)
-
--- none is left
-behind_end : (low : List ℕ) (n i : ℕ) → n ≤ i → behind low n i ≡ []
-behind_end low n i l =
-    let e : drop i (take n low) ≡ [] = drop_of_length-le (take n low) {i = i} (rw length-take (omega arith)) in
-    rw e
-
 -- words are one exactly if they are equal
-word_same : (x y : ℕ) → same_identity (key_identity x) (key_identity y) ≡ eqb x y
+word_same : (x y : ℕ) → eqb y x ≡ same_identity (key_identity x) (key_identity y)
 unfolding same_identity key_identity
-word_same x y = go (eqb x y)
+word_same x y = go (eqb x y) refl
   where
-    go : (b : Bool) → b && true ≡ b
-    go true = refl
-    go false = refl
+    go : (b : Bool) → eqb x y ≡ b → eqb y x ≡ b && true
+    go true e = eq-eqb y x (sym (eqb-true x y e))
+    go false e = ne_eqb y x (λ z. eqb-false x y e (sym z))
 
-module _ (low : List ℕ) (x n j : ℕ) (l : j < n) (h : n ≤ length low) where
-  -- the word at j is the same
-  pub among_hit : x ≡ get_or low j 0 → true ≡ among (key_identity x) (behind low n j)
-  unfolding among
-  among_hit e = sym (rw (behind_cons low n j l h, word_same, eq-eqb x (get_or low j 0) e))
-
-  -- it is another, and those behind it tell
-  pub among_miss : (x ≡ get_or low j 0 → ⊥) → among (key_identity x) (behind low n (j + 1)) ≡ among (key_identity x) (behind low n j)
-  unfolding among
-  among_miss e = sym (rw (behind_cons low n j l h, word_same, ne_eqb x (get_or low j 0) e))
-
--- none is left
-pub among_end : (low : List ℕ) (x n j : ℕ) → n ≤ j → false ≡ among (key_identity x) (behind low n j)
+-- a word is one of some if `==` finds it there
+among_any : (x : ℕ) (ws : List ℕ) → list_any (λ y. eqb y x) ws ≡ among (key_identity x) (map key_identity ws)
 unfolding among
-among_end low x n j l = sym (rw (behind_end low n j l))
+among_any x [] = refl
+among_any x (y ∷ ws) = rw (word_same x y, among_any x ws)
 
-module _ (low : List ℕ) (n i : ℕ) (l : i < n) (h : n ≤ length low) (r : Bool) (e : r ≡ among (key_identity (get_or low i 0)) (behind low n (i + 1))) where
-  -- the word at i comes again
-  pub apart_fails : r ≡ true → false ≡ apart (behind low n i)
+module _ (ws : List ℕ) (i : ℕ) (r : Bool) (l : i < length ws)
+    (e : r ≡ list_any (λ y. eqb y (get_or ws i 0)) (take (length ws - (i + 1)) (drop (i + 1) ws))) where
+  -- word i, and whether it stands behind again
+  told : r ≡ among (key_identity (get_or ws i 0)) (map key_identity (drop (i + 1) ws))
+  told =
+      let n : take (length ws - (i + 1)) (drop (i + 1) ws) ≡ drop (i + 1) ws = take_all (length ws - (i + 1)) (drop (i + 1) ws) (rw length-drop (omega arith)) in
+      rw n at e ∙ among_any (get_or ws i 0) (drop (i + 1) ws)
+
+  -- word i, and those behind it
+  front : drop i ws ≡ get_or ws i 0 ∷ drop (i + 1) ws
+  front = let q : i + 1 ≡ suc i = omega arith in rw q (drop-cons ws i 0 l)
+
+  -- what they tell
+  split : apart (map key_identity (drop i ws)) ≡ not r && apart (map key_identity (drop (i + 1) ws))
   unfolding apart
-  apart_fails t = sym (rw (behind_cons low n i l h, ← e, t))
+  split = ap (λ (x : List ℕ). apart (map key_identity x)) front ∙ ap (λ (b : Bool). not b && apart (map key_identity (drop (i + 1) ws))) (sym told)
+
+  -- word i comes again
+  pub apart_hit : r ≡ true → false ≡ apart (map key_identity (drop i ws))
+  apart_hit t = sym (split ∙ rw t)
 
   -- it does not, and those behind it tell
-  pub apart_goes : r ≡ false → apart (behind low n (i + 1)) ≡ apart (behind low n i)
-  unfolding apart
-  apart_goes f = sym (rw (behind_cons low n i l h, ← e, f))
+  pub apart_miss : r ≡ false → apart (map key_identity (drop (i + 1) ws)) ≡ apart (map key_identity (drop i ws))
+  apart_miss f = sym (split ∙ rw f)
 
 -- none is left
-pub apart_end : (low : List ℕ) (n i : ℕ) → n ≤ i → true ≡ apart (behind low n i)
+pub apart_end : (ws : List ℕ) (i : ℕ) → length ws ≤ i → true ≡ apart (map key_identity (drop i ws))
 unfolding apart
-apart_end low n i l = sym (rw (behind_end low n i l))
+apart_end ws i l = let e : drop i ws ≡ [] = drop_of_length-le ws {i = i} l in rw e

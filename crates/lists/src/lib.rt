@@ -3,16 +3,17 @@
 // functions, over plain values.
 #![tactic(auto)]
 
-ghost use Rattle.std.specs.Prelude.{◌≡◌, ◌+◌, ◌*◌, ◌≤◌, ◌<◌, map, length, get_or, take, drop, set};
+ghost use Rattle.std.specs.Prelude.{◌≡◌, ◌+◌, ◌*◌, ◌≤◌, ◌<◌, map, length, drop, set};
 ghost use Rattle.model.specs.Reasons.{passes};
 ghost use Rattle.model.specs.Tables.{chop};
 ghost use Rattle.model.specs.Tables.{rule_at};
 ghost use Rattle.lists.specs.Lists.{KeysRead, key_at, key_identity, value_checks};
-ghost use Rattle.records.specs.Identities.{among, apart};
+ghost use Rattle.records.specs.Identities.{apart};
 
 use records::Identity;
 
-// A place in a list: the caller's packet, and where the next record begins.
+// A place in a list: the caller's packet, and where the next record begins. `chunks_exact` over the list's part of the packet would be no plainer: what the
+// records are is said of places in the packet, as in `records`.
 #[derive(Clone, Copy)]
 pub struct Reader<'a> {
     pub packet: &'a [u8],
@@ -62,55 +63,34 @@ fn note(key: Key, i: usize, low: &mut [u64; 32]) -> bool
     requires { i < 32 }
     ensures { (result ≡ key.keeps_rule) × (low.new ≡ set low.old i key.identity.low) }
 {
-    let d = key.identity;
-    low[i] = d.low;
+    low[i] = key.identity.low;
     key.keeps_rule
 }
 
 // Goes through the n records of table k from a place on, with one reader: whether each keeps its rule. It ends at the first that does not; else it
-// leaves the words of their identities.
+// leaves the words of their identities, of which there are n: memory is fixed, and the array has room for the longest list.
 fn read_keys(k: usize, packet: &[u8], from: usize, n: usize, low: &mut [u64; 32]) -> bool
     requires { (k < 6) × (n ≤ 32) × (from + (rule_at k).size * n ≤ length packet.now) × (length low.old ≡ 32) }
     ensures { KeysRead k (chop (rule_at k).size n (drop from packet.now)) result low.new }
 {
     let mut reader = reader_at(packet, from);
-    let mut read: usize = 0;
-    while read < n {
+    for i in 0..n {
         let key = next(&mut reader, k);
-        if !note(key, read, low) {
+        if !note(key, i, low) {
             return false;
         }
-        read += 1;
     }
     true
 }
 
-// Whether word i is one of those behind it, up to word n.
-fn repeated_behind(low: &[u64], i: usize, n: usize) -> bool
-    requires { (i < n) × (n ≤ length low.now) }
-    ensures { result ≡ among (key_identity (get_or low.now i 0)) (map key_identity (drop (i + 1) (take n low.now))) }
+// Whether no two words are the same, each compared with those behind it.
+fn all_apart(words: &[u64]) -> bool
+    ensures { result ≡ apart (map key_identity words.now) }
 {
-    let mut j = i + 1;
-    while j < n {
-        if low[j] == low[i] {
-            return true;
-        }
-        j += 1;
-    }
-    false
-}
-
-// Whether no two of the first n words are the same, each compared with those behind it.
-fn all_apart(low: &[u64], n: usize) -> bool
-    requires { n ≤ length low.now }
-    ensures { result ≡ apart (map key_identity (take n low.now)) }
-{
-    let mut i: usize = 0;
-    while i < n {
-        if repeated_behind(low, i, n) {
+    for i in 0..words.len() {
+        if words[i + 1..].contains(&words[i]) {
             return false;
         }
-        i += 1;
     }
     true
 }
@@ -120,9 +100,6 @@ pub fn list_ok(k: usize, packet: &[u8], from: usize, n: usize) -> bool
     requires { (0 < k) × (k < 6) × (n ≤ 32) × (from + (rule_at k).size * n ≤ length packet.now) }
     ensures { result ≡ passes (value_checks (rule_at k) (chop (rule_at k).size n (drop from packet.now))) }
 {
-    let mut low: [u64; 32] = [0; 32];
-    if read_keys(k, packet, from, n, &mut low) {
-        return all_apart(&low, n);
-    }
-    false
+    let mut low = [0; 32];
+    read_keys(k, packet, from, n, &mut low) && all_apart(&low[..n])
 }

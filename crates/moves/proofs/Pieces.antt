@@ -2,22 +2,21 @@
 use Prim.Native.Nat.{ℕ, suc, ◌+◌, ◌-◌, ◌≤◌, ◌<◌}
 use native.Mathlib.Omega.{arith}
 use native.Mathlib.Nat.{add-zero}
-use mathlib.Core.Path.{◌≡◌, sym, ap, ◌∙◌}
-use mathlib.Core.Bool.{Bool, true, false}
+use mathlib.Core.Path.{◌≡◌, refl, sym, ap, ◌∙◌}
+use mathlib.Core.Bool.{true}
 use mathlib.Core.List.{List, [], ◌∷◌, ◌++◌, map, append_assoc}
 use mathlib.Core.Option.{some}
 use lib.ListN.{length, take, drop, replicate, length-append, length-drop, length-replicate, length-take}
-use lib.Seq.{drop-drop, get_or-take, take_at}
+use lib.Seq.{drop-drop, get_or-take, take-length, take_at}
 use lib.Dec.{ltb, lit<, ltb→lt}
 use Rattle.model.specs.declared.Hardware.{Hardware}
-use Rattle.model.specs.declared.RadioSettings.{RadioSettings}
 use Rattle.model.specs.declared.Settings.{Settings}
 use Rattle.model.specs.declared.Version.{Version}
 use Rattle.model.specs.declared.Version.TheVariants.{One, Two}
 use Rattle.model.specs.Octets.{Octets, be16, be32, bytes, joined, number, octet, used_part}
 use Rattle.model.specs.State.{Table}
 use Rattle.model.specs.Tables.{TableRule, table_rules}
-use Rattle.model.specs.Image.{bredr_as_supported, bredr_flag, can_say, controller_image, flag_word, flags_of, name_image, name_read, name_right, name_size, names_image}
+use Rattle.model.specs.Image.{controller_image, flags_of, name_image, name_read, name_right, name_size, names_image}
 use Rattle.model.specs.Image.{padded, table_image}
 use Rattle.model.specs.Reading.{controller_by, fixed_by, goes_on, hardware_by, walk_tables}
 use Rattle.model.proofs.Model.Fixed.{names_out, one_octet}
@@ -26,45 +25,13 @@ use Rattle.model.proofs.Model.SavedAgain.{tables_again}
 use Rattle.model.proofs.Model.Tables.{bytes_drop, bytes_take}
 use Rattle.model.proofs.Model.Tests.{and_true}
 use Rattle.octets.specs.Parts.{part, write_at}
-use Rattle.octets.proofs.Parts.{drop_take, length_part, write_split}
-use Rattle.octets.proofs.Laws.{lent_part, part_add, take_used}
+use Rattle.octets.proofs.Parts.{length_part, write_split}
+use Rattle.octets.proofs.Laws.{part_add, take_used}
 use Rattle.fields.specs.Places.{fixed_end, fixed_in, hardware_in, names_in, settings_in, short_place, static_in}
 use Rattle.fields.proofs.Says.{FieldsRight}
 use Rattle.reading.specs.Contents.{Parsed, Placed, controller_in, tables_in}
 use Rattle.reading.proofs.Steps.{clean_through, one_controller}
-use Rattle.moves.specs.Moving.{fixed_moved, flags_for, other, written}
-
--- 1. Versions -----------------------------------------------------------------------------------------------------------------------------------
-
--- the other version of version 1
-pub other_one : (to : Version) → to ≡ One → Two ≡ other to
-unfolding other
-other_one to e = rw e
-
--- and of version 2
-pub other_two : (to : Version) → to ≡ Two → One ≡ other to
-unfolding other
-other_two to e = rw e
-
--- what version 1 can say
-pub say_one : (to : Version) (r : RadioSettings) → to ≡ One → bredr_as_supported r ≡ can_say to r
-unfolding can_say
-say_one to r e = rw e
-
--- and version 2
-pub say_two : (to : Version) (r : RadioSettings) → to ≡ Two → true ≡ can_say to r
-unfolding can_say
-say_two to r e = rw e
-
--- the flags in version 1
-pub flags_one : (to : Version) (k b s l : Bool) → to ≡ One → flag_word k b false l ≡ flag_word k b (bredr_flag to s) l
-unfolding bredr_flag
-flags_one to k b s l e = rw e
-
--- and in version 2
-pub flags_two : (to : Version) (k b s l : Bool) → to ≡ Two → flag_word k b s l ≡ flag_word k b (bredr_flag to s) l
-unfolding bredr_flag
-flags_two to k b s l e = rw e
+use Rattle.moves.specs.Moving.{Lies, fixed_moved, flags_for, other, written}
 
 -- 2. A name -------------------------------------------------------------------------------------------------------------------------------------
 
@@ -72,44 +39,40 @@ flags_two to k b s l e = rw e
 pub then : (d : Octets) (p : ℕ) (x y : Octets) (q : ℕ) → p + length x ≡ q → write_at (write_at d p x) q y ≡ write_at d p (x ++ y)
 then d p x y q e = rw (← e) (sym (write_split d p x y))
 
--- a name as it stands in an image, moved
-abbrev pub name_moved : Version → (room : ℕ) → Octets → (at size : ℕ) → Octets
-name_moved to room image at size = name_image to (name_read (other to) room (part image at size))
+-- the name that a field says, moved
+abbrev pub moved : Version → (room : ℕ) → Octets → Octets
+moved to room x = name_image to (name_read (other to) room x)
 
--- a field of version 2 but its first octet
-part_behind : (image : Octets) (at size : ℕ) → 0 < size → drop 1 (part image at size) ≡ part image (at + 1) (size - 1)
-unfolding part
-part_behind image at size h =
-    let e : size ≡ 1 + (size - 1) = omega arith in
-    let f : drop 1 (take (1 + (size - 1)) (drop at image)) ≡ take (size - 1) (drop 1 (drop at image)) = drop_take 1 (size - 1) (drop at image) in
-    (rw (← e) at f) ∙ rw (drop-drop 1 at image)
+-- the same of a field as it stands in an image
+abbrev pub name_moved : Version → (room : ℕ) → Octets → (at size : ℕ) → Octets
+name_moved to room image at size = moved to room (part image at size)
+
+-- all octets but the first
+behind_first : (x : Octets) → take (length x - 1) (drop 1 x) ≡ drop 1 x
+behind_first x = rw (← length-drop 1 x) (take-length (drop 1 x))
 
 -- to version 1: the octets behind the length octet, then zeros
-name_one : (to : Version) (room : ℕ) (image : Octets) (at size : ℕ) → to ≡ One → 0 < size → at + size ≤ length image
-    → name_moved to room image at size ≡ part image (at + 1) (size - 1) ++ replicate (room - (size - 1)) 0
+name_one : (to : Version) (room : ℕ) (x : Octets) → to ≡ One
+    → moved to room x ≡ take (length x - 1) (drop 1 x) ++ replicate (room - length (take (length x - 1) (drop 1 x))) 0
 unfolding name_image name_read padded other
-name_one to room image at size e h l =
-    let n : length (part image (at + 1) (size - 1)) ≡ size - 1 = length_part image (at + 1) (size - 1) (omega arith) in
-    rw (e, part_behind image at size h, n)
+name_one to room x e = rw (e, behind_first x)
 
 -- all of its room
-pub one_long : (to : Version) (room : ℕ) (image : Octets) (at size : ℕ) → to ≡ One → 0 < size → size ≤ room → at + size ≤ length image
-    → length (name_moved to room image at size) ≡ room
-one_long to room image at size e h r l =
-    let x : Octets = part image (at + 1) (size - 1) in
-    let n : length x ≡ size - 1 = length_part image (at + 1) (size - 1) (omega arith) in
-    rw (name_one to room image at size e h l)
-    (length-append x (replicate (room - (size - 1)) 0) ∙ omega (arith, length-replicate {A = ℕ} (room - (size - 1)) 0))
+pub one_long : (to : Version) (room : ℕ) (x : Octets) → to ≡ One → 0 < length x → length x ≤ room → length (moved to room x) ≡ room
+one_long to room x e h r =
+    let y : Octets = take (length x - 1) (drop 1 x) in
+    let n : length y ≡ length x - 1 = rw (behind_first x) (length-drop 1 x) in
+    rw (name_one to room x e) (length-append y (replicate (room - length y) 0) ∙ omega (arith, length-replicate {A = ℕ} (room - length y) 0))
 
 -- written so
-pub one_written : (to : Version) (room : ℕ) (image : Octets) (at size : ℕ) (d d1 d2 : Octets) (p : ℕ) → to ≡ One → 0 < size → size ≤ room → at + size ≤ length image
-    → d1 ≡ write_at d p (part image (at + 1) (size - 1)) → d2 ≡ write_at d1 (p + (size - 1)) (replicate (room - (size - 1)) 0)
-    → (p + room ≡ p + length (name_moved to room image at size)) × (d2 ≡ write_at d p (name_moved to room image at size))
-one_written to room image at size d d1 d2 p e h r l a b =
-    let x : Octets = part image (at + 1) (size - 1) in
-    let n : length x ≡ size - 1 = length_part image (at + 1) (size - 1) (omega arith) in (
-      rw (one_long to room image at size e h r l),
-      b ∙ rw (a, name_one to room image at size e h l) (then d p x (replicate (room - (size - 1)) 0) (p + (size - 1)) (rw n)),
+pub one_written : (to : Version) (room : ℕ) (x d d1 d2 : Octets) (p : ℕ) → to ≡ One → 0 < length x → length x ≤ room
+    → d1 ≡ write_at d p (take (length x - 1) (drop 1 x))
+    → d2 ≡ write_at d1 (p + length (take (length x - 1) (drop 1 x))) (replicate (room - length (take (length x - 1) (drop 1 x))) 0)
+    → (p + room ≡ p + length (moved to room x)) × (d2 ≡ write_at d p (moved to room x))
+one_written to room x d d1 d2 p e h r a b =
+    let y : Octets = take (length x - 1) (drop 1 x) in (
+      rw (one_long to room x e h r),
+      b ∙ rw (a, name_one to room x e) (then d p y (replicate (room - length y) 0) (p + length y) refl),
     )
 
 -- the used part is no longer than the name
@@ -119,24 +82,21 @@ used_short o =
     omega (arith, length-take (length (used_part o)) o)
 
 -- to version 2: the length of the used part, then that part
-name_two : (to : Version) (room : ℕ) (image : Octets) (at size : ℕ) (used : Octets) → to ≡ Two → used ≡ used_part (take (at + size - at) (drop at image))
-    → name_moved to room image at size ≡ length used ∷ used
+name_two : (to : Version) (room : ℕ) (x used : Octets) → to ≡ Two → used ≡ used_part x → moved to room x ≡ length used ∷ used
 unfolding name_image name_read other
-name_two to room image at size used e u = rw (e, u, lent_part image at size)
+name_two to room x used e u = rw (e, u)
 
 -- no longer than the field
-pub two_long : (to : Version) (room : ℕ) (image : Octets) (at size : ℕ) (used : Octets) → to ≡ Two → used ≡ used_part (take (at + size - at) (drop at image))
-    → at + size ≤ length image → (length (name_moved to room image at size) ≡ 1 + length used) × (length used ≤ size)
-two_long to room image at size used e u l =
-    let n : length used ≡ length (used_part (part image at size)) = rw (u, lent_part image at size) in
-    (rw (name_two to room image at size used e u) (omega arith), omega (arith, used_short (part image at size), length_part image at size l))
+pub two_long : (to : Version) (room : ℕ) (x used : Octets) → to ≡ Two → used ≡ used_part x
+    → (length (moved to room x) ≡ 1 + length used) × (length used ≤ length x)
+two_long to room x used e u = (rw (name_two to room x used e u) (omega arith), rw u (used_short x))
 
 -- written so
-pub two_written : (to : Version) (room : ℕ) (image : Octets) (at size : ℕ) (used d d1 d2 : Octets) (p : ℕ) → to ≡ Two
-    → used ≡ used_part (take (at + size - at) (drop at image)) → d1 ≡ write_at d p (length used ∷ []) → d2 ≡ write_at d1 (p + 1) used
-    → (p + 1 + length used ≡ p + length (name_moved to room image at size)) × (d2 ≡ write_at d p (name_moved to room image at size))
-two_written to room image at size used d d1 d2 p e u a b =
-    rw (name_two to room image at size used e u) (omega arith, b ∙ rw a (then d p (length used ∷ []) used (p + 1) (omega arith)))
+pub two_written : (to : Version) (room : ℕ) (x used d d1 d2 : Octets) (p : ℕ) → to ≡ Two
+    → used ≡ used_part x → d1 ≡ write_at d p (length used ∷ []) → d2 ≡ write_at d1 (p + 1) used
+    → (p + 1 + length used ≡ p + length (moved to room x)) × (d2 ≡ write_at d p (moved to room x))
+two_written to room x used d d1 d2 p e u a b =
+    rw (name_two to room x used e u) (omega arith, b ∙ rw a (then d p (length used ∷ []) used (p + 1) (omega arith)))
 
 -- 3. The fixed part -----------------------------------------------------------------------------------------------------------------------------
 
@@ -341,6 +301,14 @@ finds_room to image at tables end n place room g l h = record {
   within = l.within;
   out = rw (← l.total) h;
 }
+
+-- so does one that is to be moved
+pub finds : (to v : Version) (image : Octets) (at tables end n place room : ℕ) → bytes image ≡ true → Lies (other to) image at
+    → tables ≡ at + fixed_end (other to) (drop at image) → end ≤ length image
+    → ((g : Parsed Placed) → controller_in (other to) (drop at image) ≡ some g → (drop end image ≡ g.behind) × (place + length (written to g.value) ≤ room))
+    → v ≡ other to → n ≡ name_size v 249 (drop (at + 24) image) → Room to image at tables end n place room
+finds to v image at tables end n place room w (g, e) t l f ev en =
+    finds_room to image at tables end n place room g (laid to v image at tables end n g w e t l (f g e).0 ev en) (f g e).1
 
 -- the fixed part, the names and the tables, written one behind the other
 pub controller_written : (to : Version) (image : Octets) (at tables end n : ℕ) (g : Parsed Placed) (d d1 d2 d3 d4 : Octets) (p q r : ℕ)

@@ -11,15 +11,15 @@ ghost use Rattle.model.specs.Tables.{table_rules};
 ghost use Rattle.model.specs.Image.{bredr_flag, can_say, flag_word, image_of, name_image, name_read};
 ghost use Rattle.model.specs.Reading.{hub_of, items, judge, only, walk};
 ghost use Rattle.model.specs.Moves.{hub_downgrade, hub_upgrade, rewritten, with_room};
-ghost use Rattle.octets.specs.Parts.{part, write_at};
+ghost use Rattle.octets.specs.Parts.{write_at};
 ghost use Rattle.fields.specs.Places.{fixed_end};
 ghost use Rattle.reading.specs.Contents.{Parsed, Placed, controller_in, tables_in};
 ghost use Rattle.moves.specs.Moving.{Gives, Lies, TablesLie, all_lie, all_said, other, controllers_in, fixed_moved, written};
 
 use model::{Answer, RadioSettings, Settings, Version, lengths};
-use reading::Judgement;
 
-// The version that an image is moved from.
+// The version that an image is moved from. It is a function, and no method: Version is declared in model, which holds no code.
+#[tactic(auto, unfolding(crate::specs::Moving::other))]
 fn other(to: Version) -> Version
     ensures { result ≡ other to }
 {
@@ -30,6 +30,7 @@ fn other(to: Version) -> Version
 }
 
 // Whether a version can say these settings: version 1 only BR/EDR that is on where it is supported.
+#[tactic(auto, unfolding(model::specs::Image::can_say))]
 fn can_say(to: Version, r: RadioSettings) -> bool
     ensures { result ≡ can_say to r }
 {
@@ -40,15 +41,20 @@ fn can_say(to: Version, r: RadioSettings) -> bool
 }
 
 // The flags that a version has for these settings: version 1 has none for BR/EDR.
+#[tactic(auto, unfolding(model::specs::Image::bredr_flag))]
 fn flags_of(to: Version, m: Settings) -> u64
     ensures { result ≡ flag_word m.radio.connectable m.host.bondable (bredr_flag to m.radio.bredr) m.radio.low_energy }
 {
-    let r = m.radio;
-    let h = m.host;
-    match to {
-        Version::One => rules::flag_word(r.connectable, h.bondable, false, r.low_energy),
-        Version::Two => rules::flag_word(r.connectable, h.bondable, r.bredr, r.low_energy),
-    }
+    let bredr = match to {
+        Version::One => false,
+        Version::Two => m.radio.bredr,
+    };
+    rules::flag_word(
+        m.radio.connectable,
+        m.host.bondable,
+        bredr,
+        m.radio.low_energy,
+    )
 }
 
 // The place behind the six tables at a place of an acceptable image.
@@ -58,37 +64,29 @@ fn tables_end(image: &[u8], at: usize) -> usize
         → (at ≤ result) × (result ≤ length image.now) × (drop result image.now ≡ m.behind) }
 {
     let mut p = at;
-    let mut k: usize = 0;
-    while k < 6 {
-        p = p + 1 + records::size_of(k) * image[p] as usize;
-        k += 1;
+    for k in 0..6 {
+        p += 1 + records::size_of(k) * usize::from(image[p]);
     }
     p
 }
 
-// Writes the name whose field has so many octets at a place of the image; its room is 249 octets, or 11 of a short name. Gives the place behind it.
-fn move_name(
-    to: Version,
-    room: usize,
-    image: &[u8],
-    at: usize,
-    size: usize,
-    out: &mut [u8],
-    place: usize,
-) -> usize
-    requires { (at + size ≤ length image.now) × (0 < size) × (size ≤ room) × (room ≤ 249)
-        × (place + length (name_image to (name_read (other to) room (part image.now at size))) ≤ length out.old) }
-    ensures { (result ≡ place + length (name_image to (name_read (other to) room (part image.now at size))))
-        × (out.new ≡ write_at out.old place (name_image to (name_read (other to) room (part image.now at size)))) }
+// Writes the name that a field says at a place of the output; its room is 249 octets, or 11 of a short name. Gives the place behind it.
+#[tactic(auto, using(crate::proofs::Pieces::one_long, crate::proofs::Pieces::two_long))]
+fn move_name(to: Version, room: usize, field: &[u8], out: &mut [u8], place: usize) -> usize
+    requires { (0 < length field.now) × (length field.now ≤ room) × (room ≤ 249)
+        × (place + length (name_image to (name_read (other to) room field.now)) ≤ length out.old) }
+    ensures { (result ≡ place + length (name_image to (name_read (other to) room field.now)))
+        × (out.new ≡ write_at out.old place (name_image to (name_read (other to) room field.now))) }
 {
     match to {
         Version::One => {
-            octets::copy_part(out, place, image, at + 1, size - 1);
-            octets::zero_fill(out, place + (size - 1), room - (size - 1));
+            let name = &field[1..];
+            octets::copy_into(out, place, name);
+            octets::zero_fill(out, place + name.len(), room - name.len());
             place + room
         }
         Version::Two => {
-            let used = octets::used_part(&image[at..at + size]);
+            let used = octets::used_part(field);
             octets::put8(out, place, used.len() as u8);
             octets::copy_into(out, place + 1, used);
             place + 1 + used.len()
@@ -101,13 +99,10 @@ fn move_fixed(to: Version, image: &[u8], at: usize, out: &mut [u8], place: usize
     requires { (at + 24 ≤ length image.now) × (place + 24 ≤ length out.old) }
     ensures { out.new ≡ write_at out.old place (fixed_moved to image.now at) }
 {
-    octets::copy_part(out, place, image, at, 14);
-    octets::put_be32(
-        out,
-        place + 14,
-        flags_of(to, fields::settings_in(other(to), image, at)),
-    );
-    octets::copy_part(out, place + 18, image, at + 18, 6);
+    let flags = flags_of(to, fields::settings_in(other(to), image, at));
+    octets::copy_into(out, place, &image[at..at + 14]);
+    octets::put_be32(out, place + 14, flags);
+    octets::copy_into(out, place + 18, &image[at + 18..at + 24]);
 }
 
 // Writes the controller that lies at a place of the image, up to an end, its tables at another. Gives the place behind it.
@@ -126,19 +121,12 @@ fn move_controller(
     ensures { (g : Parsed Placed) → controller_in (other to) (drop at image.now) ≡ some g
         → (result ≡ place + length (written to g.value)) × (out.new ≡ write_at out.old place (written to g.value)) }
 {
-    let n = fields::name_size(other(to), 249, image, at + 24);
+    let name = at + 24;
+    let short = name + fields::name_size(other(to), 249, image, name);
     move_fixed(to, image, at, out, place);
-    let short = move_name(to, 249, image, at + 24, n, out, place + 24);
-    let p = move_name(
-        to,
-        11,
-        image,
-        at + 24 + n,
-        tables - (at + 24 + n),
-        out,
-        short,
-    );
-    octets::copy_part(out, p, image, tables, end - tables);
+    let second = move_name(to, 249, &image[name..short], out, place + 24);
+    let p = move_name(to, 11, &image[short..tables], out, second);
+    octets::copy_into(out, p, &image[tables..end]);
     p + (end - tables)
 }
 
@@ -147,15 +135,13 @@ fn all_said(to: Version, image: &[u8]) -> bool
     requires { (6 ≤ length image.now) × (all_lie (other to) (get_or image.now 5 0) (drop 6 image.now) ≡ true) }
     ensures { result ≡ all_said to (controllers_in (other to) (get_or image.now 5 0) (drop 6 image.now)) }
 {
-    let mut count = image[5];
+    let from = other(to);
     let mut at: usize = 6;
-    while 0 < count {
-        let m = fields::settings_in(other(to), image, at);
-        if !can_say(to, m.radio) {
+    for _ in 0..image[5] {
+        if !can_say(to, fields::settings_in(from, image, at).radio) {
             return false;
         }
-        at = tables_end(image, fields::fixed_end(other(to), image, at));
-        count = count - 1;
+        at = tables_end(image, fields::fixed_end(from, image, at));
     }
     true
 }
@@ -168,15 +154,14 @@ fn move_controllers(to: Version, image: &[u8], out: &mut [u8]) -> usize
         × (out.new ≡ write_at out.old 6
         (joined (map (written to) (controllers_in (other to) (get_or image.now 5 0) (drop 6 image.now))))) }
 {
-    let mut count = image[5];
+    let from = other(to);
     let mut at: usize = 6;
     let mut place: usize = 6;
-    while 0 < count {
-        let tables = fields::fixed_end(other(to), image, at);
+    for _ in 0..image[5] {
+        let tables = fields::fixed_end(from, image, at);
         let end = tables_end(image, tables);
         place = move_controller(to, image, at, tables, end, out, place);
         at = end;
-        count = count - 1;
     }
     place
 }
@@ -203,13 +188,13 @@ fn move_to(to: Version, image: &[u8], out: &mut [u8]) -> Answer
         return Answer::SmallBuffer;
     }
     match reading::judge_only(other(to), image) {
-        Judgement::Acceptable(version) => {
+        Ok(_) => {
             if all_said(to, image) {
                 return Answer::Done(write(to, image, out));
             }
             Answer::NotInImage
         }
-        Judgement::Faulty(fault, place) => Answer::BadImage(fault, place),
+        Err(f) => Answer::BadImage(f.fault, f.at),
     }
 }
 

@@ -1,30 +1,35 @@
 -- Laws that the proofs of this crate cite, over plain lists and numbers.
 use mathlib.Core.Path.{◌≡◌, refl, ap, sym}
-use Prim.Native.Nat.{ℕ, suc, ◌+◌, ◌*◌, ◌-◌, ◌≤◌, ◌<◌}
+use Prim.Native.Nat.{ℕ, suc, ◌+◌, ◌-◌, ◌/◌, ◌%◌, ◌≤◌, ◌<◌}
 use native.Mathlib.Omega.{arith}
 use native.Mathlib.Nat.{add-zero, sub-zero}
 use native.Mathlib.Numerals.{add-one}
-use mathlib.Core.Bool.{true, false}
-use mathlib.Core.List.{List, [], ◌∷◌, ◌++◌}
-use lib.ListN.{length, get_or, take, drop, set, replicate, drop_of_length-le}
-use lib.Seq.{drop-cons, take-add, drop-drop}
-use lib.Dec.{eqb}
-use borrow.Author.Tests.{eq-eqb, ne_eqb}
-use Rattle.model.specs.Octets.{Octets, u16, u32, number, same, used_part}
+use mathlib.Core.Bool.{Bool, true, false, not, cond}
+use mathlib.Core.List.{List, [], ◌∷◌, ◌++◌, append_assoc}
+use Rattle.std.proofs.Common.{Some, None}
+use lib.ListN.{length, get_or, take, drop, set, length-take, drop_of_length-le}
+use lib.Seq.{drop-cons, take-add, drop-drop, sets-eq}
+use lib.Dec.{eqb, ltb}
+use borrow.Author.Tests.{eq-eqb, ne_eqb, ltb-false}
+use borrow.Rule.Slice.PartMut.{put_mid}
+use Rattle.std.specs.Int.{from_be_bytes, from_le_bytes, to_be_bytes, to_le_bytes, w16, w32}
+use Rattle.std.specs.List.{list_all, position, position_or_len}
+use Rattle.std.specs.Option.{unwrap_or}
+use Rattle.model.specs.Octets.{Octets, be32, le16, le32, u16, u32, number, all_zero, same, used_part}
 use Rattle.model.proofs.Model.Tests.{either}
 use Rattle.octets.specs.Parts.{part, write_at}
 
 -- READING -------------------------------------------------------------------------------------------------------------------------------------
 
 -- two octets read, low octet first, are the model's number there
-pub u16_is : (s : List ℕ) (at : ℕ) → get_or s at 0 + 256 * get_or s (at + 1) 0 ≡ u16 s at
+pub u16_is : (s : List ℕ) (at : ℕ) → from_le_bytes w16 (get_or s at 0 ∷ get_or s (at + 1) 0 ∷ []) ≡ u16 s at
 unfolding u16
-u16_is s at = refl
+u16_is s at = omega arith
 
--- two numbers of two octets, the low one first, are the model's number in four
-pub u32_is : (s : List ℕ) (at : ℕ) → u16 s at + 65536 * u16 s (at + 2) ≡ u32 s at
-unfolding u32
-u32_is s at = refl
+-- and four octets
+pub u32_is : (s : List ℕ) (at : ℕ) → from_le_bytes w32 (get_or s at 0 ∷ get_or s (at + 1) 0 ∷ get_or s (at + 2) 0 ∷ get_or s (at + 3) 0 ∷ []) ≡ u32 s at
+unfolding u32 u16
+u32_is s at = let e : at + 2 + 1 ≡ at + 3 = omega arith in rw e (omega arith)
 
 -- a part is its first octet and the part after it
 pub part_suc : (s : List ℕ) (at n : ℕ) → at < length s → part s at (suc n) ≡ get_or s at 0 ∷ part s (at + 1) n
@@ -42,16 +47,18 @@ unfolding part
 part_add s at m n = rw (take-add m n (drop at s), drop-drop m at s)
 
 -- two octets read, high octet first, are the number that their part spells
-pub be16_is : (s : List ℕ) (at : ℕ) → at + 2 ≤ length s → 256 * get_or s at 0 + get_or s (at + 1) 0 ≡ number 0 (part s at 2)
+pub be16_is : (s : List ℕ) (at : ℕ) → at + 2 ≤ length s → from_be_bytes w16 (get_or s at 0 ∷ get_or s (at + 1) 0 ∷ []) ≡ number 0 (part s at 2)
 unfolding number
 be16_is s at h = rw (two_part s at h) (omega arith)
 
--- two numbers of two octets, the high one first, are the number that the part of four spells
-pub be32_is : (s : List ℕ) (at : ℕ) → at + 4 ≤ length s → 65536 * number 0 (part s at 2) + number 0 (part s (at + 2) 2) ≡ number 0 (part s at 4)
+-- and four octets
+pub be32_is : (s : List ℕ) (at : ℕ) → at + 4 ≤ length s
+    → from_be_bytes w32 (get_or s at 0 ∷ get_or s (at + 1) 0 ∷ get_or s (at + 2) 0 ∷ get_or s (at + 3) 0 ∷ []) ≡ number 0 (part s at 4)
 unfolding number
 be32_is s at h =
     let e : part s at 4 ≡ part s at 2 ++ part s (at + 2) 2 = part_add s at 2 2 in
-    rw (e, two_part s at (omega arith), two_part s (at + 2) (omega arith)) (omega arith)
+    let f : at + 2 + 1 ≡ at + 3 = omega arith in
+    rw (e, two_part s at (omega arith), two_part s (at + 2) (omega arith), f) (omega arith)
 
 -- six octets read are the part of six there
 pub six_is : (s : List ℕ) (at : ℕ) → at + 6 ≤ length s
@@ -79,24 +86,43 @@ six_is s at h =
 
 -- WRITING -------------------------------------------------------------------------------------------------------------------------------------
 
--- four octets stored one after the other are one write
-pub four_is : (s : List ℕ) (at w x y z : ℕ) → set (set (set (set s at w) (at + 1) x) (at + 2) y) (at + 3) z ≡ write_at s at (w ∷ x ∷ y ∷ z ∷ [])
-unfolding write_at
-four_is s at w x y z =
-    let a : at + 1 ≡ suc at = omega arith in
-    let b : at + 2 ≡ suc (suc at) = omega arith in
-    let c : at + 3 ≡ suc (suc (suc at)) = omega arith in
-    rw (a, b, c)
+-- the two octets of a number are the model's
+pub le16_is : (v : ℕ) → to_le_bytes w16 (v % 65536) ≡ le16 v
+unfolding le16
+le16_is v =
+    let a : v % 65536 % 256 ≡ v % 256 = omega arith in
+    let b : v % 65536 / 256 % 256 ≡ v / 256 % 256 = omega arith in
+    rw (a, b)
 
--- two octets stored one after the other are one write
-pub two_is : (s : List ℕ) (at x y : ℕ) → set (set s at x) (at + 1) y ≡ write_at s at (x ∷ y ∷ [])
-unfolding write_at
-two_is s at x y = rw add-one
+-- and four octets, low octet first
+pub le32_is : (v : ℕ) → to_le_bytes w32 (v % 4294967296) ≡ le32 v
+unfolding le32
+le32_is v =
+    let a : v % 4294967296 % 256 ≡ v % 256 = omega arith in
+    let b : v % 4294967296 / 256 % 256 ≡ v / 256 % 256 = omega arith in
+    let c : v % 4294967296 / 65536 % 256 ≡ v / 65536 % 256 = omega arith in
+    let d : v % 4294967296 / 16777216 % 256 ≡ v / 16777216 % 256 = omega arith in
+    rw (a, b, c, d)
+
+-- and high octet first
+pub be32_octets : (v : ℕ) → to_be_bytes w32 (v % 4294967296) ≡ be32 v
+unfolding be32
+be32_octets v =
+    let a : v % 4294967296 % 256 ≡ v % 256 = omega arith in
+    let b : v % 4294967296 / 256 % 256 ≡ v / 256 % 256 = omega arith in
+    let c : v % 4294967296 / 65536 % 256 ≡ v / 65536 % 256 = omega arith in
+    let d : v % 4294967296 / 16777216 % 256 ≡ v / 16777216 % 256 = omega arith in
+    rw (d, c, b, a)
 
 -- an octet stored is a write of one octet
 pub one_is : (s : List ℕ) (at v : ℕ) → set s at v ≡ write_at s at (v ∷ [])
 unfolding write_at
 one_is s at v = refl
+
+-- a run of octets stored in the middle is one write
+pub mid_is : (s ys : List ℕ) (at k : ℕ) → length ys ≡ k → at + k ≤ length s → put_mid at k s ys ≡ write_at s at ys
+unfolding write_at
+mid_is s ys at k e h = rw (drop-drop k at s) (sym (rw (e, append_assoc) at (sets-eq ys s at (omega arith))))
 
 -- copying, what is left to do: an octet stored, and the rest from the next place on, is the rest from here on
 pub copy_turn : (s src : List ℕ) (at i : ℕ) → i < length src
@@ -114,24 +140,6 @@ copy_first s src at = rw add-zero
 pub copy_last : (s src : List ℕ) (at i : ℕ) → length src ≤ i → s ≡ write_at s (at + i) (drop i src)
 unfolding write_at
 copy_last s src at i h = let e : drop i src ≡ [] = drop_of_length-le src {i = i} h in rw e
-
--- filling, what is left to do: a zero stored, and the rest from the next place on, is the rest from here on
-pub fill_turn : (s : List ℕ) (at n i : ℕ) → i < n
-    → write_at (set s (at + i) 0) (at + (i + 1)) (replicate (n - (i + 1)) 0) ≡ write_at s (at + i) (replicate (n - i) 0)
-unfolding write_at
-fill_turn s at n i h =
-    let e : n - i ≡ suc (n - (i + 1)) = omega arith in
-    let f : at + (i + 1) ≡ suc (at + i) = omega arith in
-    rw (e, f)
-
--- at the start all is left to fill
-pub fill_first : (s : List ℕ) (at n : ℕ) → write_at s (at + 0) (replicate (n - 0) 0) ≡ write_at s at (replicate n 0)
-fill_first s at n = rw (add-zero, sub-zero)
-
--- at the end nothing is left to fill
-pub fill_last : (s : List ℕ) (at n i : ℕ) → n ≤ i → s ≡ write_at s (at + i) (replicate (n - i) 0)
-unfolding write_at
-fill_last s at n i h = let e : n - i ≡ 0 = omega arith in rw e
 
 -- PARTS ---------------------------------------------------------------------------------------------------------------------------------------
 
@@ -168,6 +176,12 @@ pub same_last : (a b : List ℕ) (i j n k : ℕ) → n ≤ k → true ≡ same (
 unfolding same part
 same_last a b i j n k h = let e : n - k ≡ 0 = omega arith in rw e
 
+-- every octet is zero
+pub all_zero_is : (a : Octets) → list_all (λ x. eqb x 0) a ≡ all_zero a
+unfolding all_zero
+all_zero_is [] = refl
+all_zero_is (x ∷ a) = rw (all_zero_is a)
+
 -- NAMES ---------------------------------------------------------------------------------------------------------------------------------------
 
 -- a zero ends the used part
@@ -187,19 +201,25 @@ take_used [] = refl
 take_used (x ∷ xs) =
     either {A = Octets} (λ u. take (length u) (x ∷ xs) ≡ u) (eqb x 0) (λ _. refl) (λ _. ap {B = Octets} (λ u. x ∷ u) (take_used xs))
 
--- at a zero the used part ends
-pub used_stop : (o : List ℕ) (i : ℕ) → i < length o → get_or o i 0 ≡ 0 → i ≡ i + length (used_part (drop i o))
-used_stop o i h e = rw (drop-cons o i 0 h, used_zero (get_or o i 0) (drop (suc i) o) e) (omega arith)
-
--- at another octet it goes on
-pub used_turn : (o : List ℕ) (i : ℕ) → i < length o → (get_or o i 0 ≡ 0 → ⊥) → i + 1 + length (used_part (drop (i + 1) o)) ≡ i + length (used_part (drop i o))
-used_turn o i h n = rw (add-one, drop-cons o i 0 h, used_more (get_or o i 0) (drop (suc i) o) n) (omega arith)
-
--- at the start all of it is to come
-pub used_first : (o : List ℕ) → 0 + length (used_part (drop 0 o)) ≡ length (used_part o)
-used_first o = omega arith
-
--- at the end of the name nothing of it is to come
-pub used_last : (o : List ℕ) (i : ℕ) → length o ≤ i → i ≡ i + length (used_part (drop i o))
+-- how many octets stand before the first zero
+used_len : (o : Octets) → position_or_len (λ x. eqb x 0) o ≡ length (used_part o)
 unfolding used_part
-used_last o i h = let e : drop i o ≡ [] = drop_of_length-le o {i = i} h in rw e (omega arith)
+used_len [] = refl
+used_len (x ∷ xs) = go (used_len xs) (eqb x 0)
+  where
+    go : position_or_len (λ y. eqb y 0) xs ≡ length (used_part xs)
+        → (b : Bool) → cond (not b) (1 + position_or_len (λ y. eqb y 0) xs) 0 ≡ length (elim b as (λ _. Octets) [ true ↦ [] | false ↦ x ∷ used_part xs ])
+    go e true = refl
+    go e false = omega arith
+
+-- the used part is no longer than the name
+used_most : (o : Octets) → length (used_part o) ≤ length o
+used_most o = omega (arith, length-take (length (used_part o)) o, ap length (take_used o))
+
+-- the first zero ends it, or the end of the name
+pub used_is : (o : Octets) → unwrap_or (position (λ x. eqb x 0) o) (length o) ≡ length (used_part o)
+used_is o = rw used_len (go (ltb (length (used_part o)) (length o)) refl)
+  where
+    go : (b : Bool) → ltb (length (used_part o)) (length o) ≡ b → unwrap_or (cond b (Some (length (used_part o))) None) (length o) ≡ length (used_part o)
+    go true e = refl
+    go false e = omega (arith, used_most o, ltb-false (length (used_part o)) (length o) e)

@@ -1,4 +1,5 @@
 -- What a whole image is found to be: by its head, and by what the walk through its controllers comes to.
+use Rattle.std.specs.Prelude.{Result, Ok, Err}
 use Prim.Native.Nat.{ℕ, suc, ◌-◌, ◌≤◌, ◌<◌}
 use native.Mathlib.Omega.{arith}
 use mathlib.Core.Path.{◌≡◌, sym, ap, ◌∙◌}
@@ -7,9 +8,7 @@ use mathlib.Core.Option.{Option, none, some}
 use lib.ListN.{length, drop, get_or, drop_of_length-le, length-drop}
 use lib.Seq.{drop-cons, get_or-drop}
 use borrow.Author.Tests.{eq-eqb, le-leb, lt-leb, ne_eqb}
-use Rattle.model.specs.declared.ImageFault.{ImageFault}
 use Rattle.model.specs.declared.ImageFault.TheVariants.{BadIndex, BadLength, BadVersion}
-use Rattle.model.specs.declared.Reached.TheVariants.{To, Fault}
 use Rattle.model.specs.declared.Version.{Version}
 use Rattle.model.specs.declared.Version.TheVariants.{One, Two}
 use Rattle.model.specs.Octets.{Octets, number, octet}
@@ -17,9 +16,8 @@ use Rattle.model.specs.Image.{version_octet}
 use Rattle.model.specs.Reading.{End, Item, Slots, Walk, cut, either_version, fault_at, faulty, goes_on, hub_of, item_at, items, judge, judge_as}
 use Rattle.model.specs.Reading.{judge_items, last_item, not_whole, nothing_dropped, only, walk}
 use Rattle.octets.specs.Parts.{part}
+use Rattle.fields.specs.declared.FaultAt.{FaultAt}
 use Rattle.fields.specs.Reads.{Begins}
-use Rattle.reading.specs.declared.Judgement.{Judgement}
-use Rattle.reading.specs.declared.Judgement.TheVariants.{Acceptable}
 use Rattle.reading.specs.Comes.{Comes, Judges, first_fault}
 
 -- 1. The head ---------------------------------------------------------------------------------------------------------------------------------
@@ -53,25 +51,25 @@ many o v e h = rw (eq-eqb _ _ e, judge_as, lt-leb _ _ h)
 -- 2. The walk ---------------------------------------------------------------------------------------------------------------------------------
 
 -- what was walked has a fault
-judged_fault : (image : Octets) (w : Walk Slots) (k : ImageFault) (x : ℕ) → Comes image w (Fault k x)
-    → judge_items (length image) (hub_of w) (items w) ≡ faulty k x
+judged_fault : (image : Octets) (w : Walk Slots) (x : FaultAt) → Comes image w (Err x)
+    → judge_items (length image) (hub_of w) (items w) ≡ faulty x.fault x.at
 unfolding items judge_items last_item first_fault
-judged_fault image w k x = by w.dropped w.end
+judged_fault image w x = by w.dropped w.end
   where
-    by : (d : List Item) (e : End) → Begins image (first_fault d e) k x → judge_items (length image) (hub_of w) (d ++ last_item e) ≡ faulty k x
+    by : (d : List Item) (e : End) → Begins image (first_fault d e) x.fault x.at → judge_items (length image) (hub_of w) (d ++ last_item e) ≡ faulty x.fault x.at
     by (i ∷ is) e (y, q, a, b) = let f : i.fault ≡ y = cc in rw (f, a, b)
     by [] (cut i) (y, q, a, b) = let f : i.fault ≡ y = cc in rw (f, a, b)
     by [] (goes_on o) (y, q, a, b) = let z : ◌≡◌ {A = ℕ} 0 1 = cc in absurd (omega arith)
 
 -- the walk of the controllers has a fault
-pub found_fault : (o : Octets) (v : Version) (k : ImageFault) (x : ℕ) → number 0 (part o 0 4) ≡ length o → get_or o 5 0 ≤ 4
-    → Comes o (walk v (drop 5 o)) (Fault k x) → judge_as o (some v) ≡ faulty k x
+pub found_fault : (o : Octets) (v : Version) (x : FaultAt) → number 0 (part o 0 4) ≡ length o → get_or o 5 0 ≤ 4
+    → Comes o (walk v (drop 5 o)) (Err x) → judge_as o (some v) ≡ faulty x.fault x.at
 unfolding octet
-found_fault o v k x e h g = judged_by o v e h ∙ judged_fault o (walk v (drop 5 o)) k x g
+found_fault o v x e h g = judged_by o v e h ∙ judged_fault o (walk v (drop 5 o)) x g
 
 -- octets are left over
 pub left_over_lem : (o : Octets) (v : Version) (p : ℕ) → number 0 (part o 0 4) ≡ length o → get_or o 5 0 ≤ 4
-    → Comes o (walk v (drop 5 o)) (To p) → p < length o → judge_as o (some v) ≡ faulty BadLength p
+    → Comes o (walk v (drop 5 o)) (Ok p) → p < length o → judge_as o (some v) ≡ faulty BadLength p
 unfolding octet items last_item judge_items item_at fault_at
 left_over_lem o v p e h (le, d, x) lt =
     let c : drop p o ≡ get_or o p 0 ∷ drop (suc p) o = drop-cons o p 0 lt in
@@ -81,7 +79,7 @@ left_over_lem o v p e h (le, d, x) lt =
 
 -- nothing is
 pub all_right : (o : Octets) (v : Version) (p : ℕ) → 6 ≤ length o → octet o 4 ≡ version_octet v → number 0 (part o 0 4) ≡ length o → get_or o 5 0 ≤ 4
-    → Comes o (walk v (drop 5 o)) (To p) → length o ≤ p → Judges o (judge_as o (some v)) (Acceptable v)
+    → Comes o (walk v (drop 5 o)) (Ok p) → length o ≤ p → Judges o (judge_as o (some v)) (Ok v)
 unfolding octet items last_item judge_items
 all_right o v p six ver e h (le, d, x) ge =
     let c : drop p o ≡ [] = drop_of_length-le o {i = p} (omega arith) in
@@ -102,7 +100,7 @@ unfolding judge octet
 judged takes o x h t = rw (le-leb _ _ h, judge, t)
 
 -- a version octet that is taken
-pub taken : (takes : ℕ → Option Version) (o : Octets) (v : Version) (r : Judgement) → 5 ≤ length o → takes (get_or o 4 0) ≡ some v
+pub taken : (takes : ℕ → Option Version) (o : Octets) (v : Version) (r : Result Version FaultAt) → 5 ≤ length o → takes (get_or o 4 0) ≡ some v
     → Judges o (judge_as o (some v)) r → Judges o (judge takes o) r
 taken takes o v r h t j = rw (judged takes o (some v) h t) j
 

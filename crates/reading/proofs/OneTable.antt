@@ -1,4 +1,5 @@
 -- One table of an image: what the tests of its records where they lie say of the model's walk through them.
+use Rattle.std.specs.Prelude.{Result, Ok}
 use Prim.Native.Nat.{ℕ, zero, suc, ◌+◌, ◌-◌, ◌*◌, ◌^◌, ◌≤◌, ◌<◌}
 use native.Mathlib.Omega.{arith}
 use native.Mathlib.Numerals.{add-one}
@@ -14,8 +15,6 @@ use borrow.Author.Tests.{eq-eqb, le-leb, leb-true, lt-leb, ne_eqb}
 use Rattle.model.specs.declared.Hardware.{Hardware}
 use Rattle.model.specs.declared.ImageFault.{ImageFault}
 use Rattle.model.specs.declared.ImageFault.TheVariants.{BadCount, BadLength, BadRecord, Repeated}
-use Rattle.model.specs.declared.Reached.{Reached}
-use Rattle.model.specs.declared.Reached.TheVariants.{To, Fault}
 use Rattle.model.specs.Octets.{Octets, bytes, joined, same}
 use Rattle.model.specs.Reasons.{passes}
 use Rattle.model.specs.Tables.{TableRule, any, blocked_rule, chop, device_rule, empty, distinct, every, identity_key_rule, link_key_rule, long_term_key_rule}
@@ -26,6 +25,8 @@ use Rattle.model.proofs.Model.Tables.{bytes_drop, bytes_take, length_chop}
 use Rattle.model.proofs.Model.Tests.{and_off, and_true}
 use Rattle.octets.specs.Parts.{part}
 use Rattle.octets.proofs.Parts.{length_part}
+use Rattle.fields.specs.declared.FaultAt.{FaultAt}
+use Rattle.fields.specs.Reads.{told}
 use Rattle.records.specs.declared.Identity.{Identity}
 use Rattle.records.specs.Identities.{identity_of, same_identity}
 use Rattle.records.specs.Slots.{records_at}
@@ -137,16 +138,16 @@ module _ (k : ℕ) (image : Octets) (size p place n at left : ℕ) (v : Seek k i
 -- 3. What a walk comes to ---------------------------------------------------------------------------------------------------------------------------
 
 -- a walk that is another comes to the same
-pub comes_by : {A : Type 0} (image : Octets) (w x : Walk A) (r : Reached) → w ≡ x → Comes image x r → Comes image w r
+pub comes_by : {A : Type 0} (image : Octets) (w x : Walk A) (r : Result ℕ FaultAt) → w ≡ x → Comes image x r → Comes image w r
 comes_by {A} image w x r e h = subst (λ (y : Walk A). Comes image y r) (sym e) h
 
 -- nothing is dropped up to a place
-pub comes_to : {A : Type 0} (image : Octets) (a : A) (p : ℕ) → p ≤ length image → Comes image (nothing_dropped a (goes_on (drop p image))) (To p)
+pub comes_to : {A : Type 0} (image : Octets) (a : A) (p : ℕ) → p ≤ length image → Comes image (nothing_dropped a (goes_on (drop p image))) (Ok p)
 unfolding nothing_dropped
 comes_to image a p l = (l, refl, refl)
 
 -- a thing is not whole
-pub comes_short : {A : Type 0} (image : Octets) (a : A) (o : Octets) → Comes image (nothing_dropped a (cut (item_at o not_whole))) (Fault BadLength (length image))
+pub comes_short : {A : Type 0} (image : Octets) (a : A) (o : Octets) → Comes image (nothing_dropped a (cut (item_at o not_whole))) (told BadLength (length image))
 unfolding nothing_dropped item_at not_whole fault_at first_fault
 comes_short image a o = (not_whole, refl, refl, sub-zero (length image))
 
@@ -156,13 +157,13 @@ left_at image p l = rw (length-drop p image) (omega arith)
 
 -- all is cut off from a thing that is at fault
 pub comes_cut : {A : Type 0} (image : Octets) (a : A) (x : ImageFault) (p : ℕ) → p ≤ length image
-    → Comes image (nothing_dropped a (cut (item_at (drop p image) (fault_at x (drop p image))))) (Fault x p)
+    → Comes image (nothing_dropped a (cut (item_at (drop p image) (fault_at x (drop p image))))) (told x p)
 unfolding nothing_dropped item_at fault_at first_fault
 comes_cut image a x p l = (fault_at x (drop p image), refl, refl, left_at image p l)
 
 -- a thing that is at fault is dropped
 pub comes_fault : {A : Type 0} (image : Octets) (w : Walk A) (x : ImageFault) (p : ℕ) → p ≤ length image
-    → Comes image (also (item_at (drop p image) (fault_at x (drop p image)) ∷ []) w) (Fault x p)
+    → Comes image (also (item_at (drop p image) (fault_at x (drop p image)) ∷ []) w) (told x p)
 unfolding also item_at fault_at first_fault
 comes_fault image w x p l = (fault_at x (drop p image), refl, refl, left_at image p l)
 
@@ -220,6 +221,10 @@ pub record Goes (k : ℕ) (image : Octets) (size place n s j p : ℕ) : Type 0 w
   pub known : (f : Hardware) → f.supported ≡ s
       → walk_records (rule_at k) f n [] (drop place image) ≡ walk_records (rule_at k) f (n - j) (chop (rule_at k).size j (drop place image)) (drop p image)
 
+-- what `first_fault` comes to
+abbrev pub Records : (k : ℕ) (image : Octets) (f : Hardware) (n place : ℕ) → Result ℕ FaultAt → Type 0
+Records k image f n place r = Comes image (walk_records (rule_at k) f n [] (drop place image)) r
+
 -- at the start none is kept
 pub goes_first : (k : ℕ) (image : Octets) (size place n s : ℕ) → size ≡ (rule_at k).size → place ≤ length image → Goes k image size place n s 0 place
 unfolding chop
@@ -233,12 +238,12 @@ goes_first k image size place n s e l = record {
 
 -- all are kept
 pub goes_end : (k : ℕ) (image : Octets) (size place n s j p : ℕ) → Goes k image size place n s j p → n ≤ j → (f : Hardware) → f.supported ≡ s
-    → Comes image (walk_records (rule_at k) f n [] (drop place image)) (To p)
+    → Comes image (walk_records (rule_at k) f n [] (drop place image)) (Ok p)
 unfolding walk_records
 goes_end k image size place n s j p v l f e =
     let z : n - j ≡ 0 = omega arith in
     let q = rw z at (v.known f e) in
-    comes_by image _ _ (To p) q (comes_to image (chop (rule_at k).size j (drop place image)) p v.within)
+    comes_by image _ _ (Ok p) q (comes_to image (chop (rule_at k).size j (drop place image)) p v.within)
 
 module _ (k : ℕ) (image : Octets) (size place n s j p : ℕ) (v : Goes k image size place n s j p) (l : j < n) (f : Hardware) (e : f.supported ≡ s) where
   -- one is left at least
@@ -247,10 +252,10 @@ module _ (k : ℕ) (image : Octets) (size place n s j p : ℕ) (v : Goes k image
   goes_on_lem = let m : n - j ≡ suc (n - (j + 1)) = omega arith in rw (← m) (v.known f e)
 
   -- the next is not whole
-  pub goes_short : length image - p < size → Comes image (walk_records (rule_at k) f n [] (drop place image)) (Fault BadLength (length image))
+  pub goes_short : length image - p < size → Comes image (walk_records (rule_at k) f n [] (drop place image)) (told BadLength (length image))
   goes_short h =
       let g : length (drop p image) < (rule_at k).size = rw (length-drop p image, ← v.sized) h in
-      comes_by image _ _ (Fault BadLength (length image)) (goes_on_lem ∙ walk_short (rule_at k) f _ _ (drop p image) g) (comes_short image _ (drop p image))
+      comes_by image _ _ (told BadLength (length image)) (goes_on_lem ∙ walk_short (rule_at k) f _ _ (drop p image) g) (comes_short image _ (drop p image))
 
   module _ (h : size ≤ length image - p) where
     -- it is whole
@@ -266,23 +271,23 @@ module _ (k : ℕ) (image : Octets) (size place n s j p : ℕ) (v : Goes k image
 
     -- a fault of it is the first one
     goes_fault : (x : ImageFault) → record_fault (rule_at k) f (chop (rule_at k).size j (drop place image)) (take (rule_at k).size (drop p image)) ≡ some x
-        → Comes image (walk_records (rule_at k) f n [] (drop place image)) (Fault x p)
+        → Comes image (walk_records (rule_at k) f n [] (drop place image)) (told x p)
     goes_fault x q =
-        comes_by image _ _ (Fault x p) (goes_on_lem ∙ walk_dropped (rule_at k) f _ _ (drop p image) goes_whole x q) (comes_fault image _ x p v.within)
+        comes_by image _ _ (told x p) (goes_on_lem ∙ walk_dropped (rule_at k) f _ _ (drop p image) goes_whole x q) (comes_fault image _ x p v.within)
 
     -- it breaks its rule
     pub goes_record_fault : false ≡ passes ((rule_at k).checks (part image p (rule_at k).size))
-        → Comes image (walk_records (rule_at k) f n [] (drop place image)) (Fault BadRecord p)
+        → Comes image (walk_records (rule_at k) f n [] (drop place image)) (told BadRecord p)
     goes_record_fault a = goes_fault BadRecord (fault_record (rule_at k) f _ _ (goes_record false a))
 
     module _ (a : true ≡ passes ((rule_at k).checks (part image p (rule_at k).size))) where
       -- its controller may not have it
-      pub goes_support_fault : false ≡ passes ((rule_at k).support f) → Comes image (walk_records (rule_at k) f n [] (drop place image)) (Fault BadRecord p)
+      pub goes_support_fault : false ≡ passes ((rule_at k).support f) → Comes image (walk_records (rule_at k) f n [] (drop place image)) (told BadRecord p)
       goes_support_fault b = goes_fault BadRecord (fault_support (rule_at k) f _ _ (goes_record true a) (sym b))
 
       module _ (b : true ≡ passes ((rule_at k).support f)) where
         -- it repeats one that is kept
-        pub goes_repeat_fault : true ≡ repeated (rule_at k) image p place j → Comes image (walk_records (rule_at k) f n [] (drop place image)) (Fault Repeated p)
+        pub goes_repeat_fault : true ≡ repeated (rule_at k) image p place j → Comes image (walk_records (rule_at k) f n [] (drop place image)) (told Repeated p)
         unfolding part
         goes_repeat_fault d = goes_fault Repeated (fault_repeat (rule_at k) f _ _ (goes_record true a) (sym b) (sym d))
 
@@ -325,10 +330,6 @@ records_right u f image place n = leb (u.size * n) (length image - place)
     && (records_ok u (chop u.size n (drop place image)) && support_ok u f (chop u.size n (drop place image)))
 
 module _ (u : TableRule) (f : Hardware) (image : Octets) (place n : ℕ) where
-  -- they are not whole
-  pub right_cut : length image - place < u.size * n → false ≡ records_right u f image place n
-  right_cut l = sym (rw (lt-leb (u.size * n) (length image - place) l))
-
   module _ (l : u.size * n ≤ length image - place) where
     -- there are none
     pub right_none : n ≡ 0 → true ≡ records_right u f image place n
@@ -369,25 +370,25 @@ module _ (u : TableRule) (f : Hardware) (image : Octets) (place n : ℕ) where
 
 module _ (u : TableRule) (f : Hardware) (image : Octets) (place : ℕ) where
   -- its count is not whole
-  pub table_short : length image ≤ place → Comes image (walk_table u f (goes_on (drop place image))) (Fault BadLength (length image))
+  pub table_short : length image ≤ place → Comes image (walk_table u f (goes_on (drop place image))) (told BadLength (length image))
   unfolding walk_table
   table_short l =
       let q : walk_table u f (goes_on (drop place image)) ≡ nothing_dropped [] (cut (item_at [] not_whole)) = rw (drop_of_length-le image {i = place} l) in
-      comes_by image _ _ (Fault BadLength (length image)) q (comes_short image [] [])
+      comes_by image _ _ (told BadLength (length image)) q (comes_short image [] [])
 
   module _ (l : place < length image) where
     -- too many records
-    pub table_many : 32 < get_or image place 0 → Comes image (walk_table u f (goes_on (drop place image))) (Fault BadCount place)
+    pub table_many : 32 < get_or image place 0 → Comes image (walk_table u f (goes_on (drop place image))) (told BadCount place)
     unfolding walk_table
     table_many a =
         let d = drop-cons image place 0 l in
         let q : walk_table u f (goes_on (drop place image)) ≡ nothing_dropped [] (cut (item_at (drop place image) (fault_at BadCount (drop place image)))) =
         rw (d, lt-leb (get_or image place 0) 32 a, walk_table) in
-        comes_by image _ _ (Fault BadCount place) q (comes_cut image [] BadCount place (omega arith))
+        comes_by image _ _ (told BadCount place) q (comes_cut image [] BadCount place (omega arith))
 
     module _ (a : get_or image place 0 ≤ 32) where
       -- its records decide
-      pub table_reads : (r : Reached) → Comes image (walk_records u f (get_or image place 0) [] (drop (place + 1) image)) r
+      pub table_reads : (r : Result ℕ FaultAt) → Comes image (walk_records u f (get_or image place 0) [] (drop (place + 1) image)) r
           → Comes image (walk_table u f (goes_on (drop place image))) r
       unfolding walk_table
       table_reads r h =
@@ -397,9 +398,9 @@ module _ (u : TableRule) (f : Hardware) (image : Octets) (place : ℕ) where
 
       -- they are right
       pub table_right : records_right u f image (place + 1) (get_or image place 0) ≡ true → (z : ℕ) → z ≡ u.size
-          → Comes image (walk_table u f (goes_on (drop place image))) (To (place + 1 + z * get_or image place 0))
+          → Comes image (walk_table u f (goes_on (drop place image))) (Ok (place + 1 + z * get_or image place 0))
       table_right e z q =
           let p = place + 1 + u.size * get_or image place 0 in
           let g = and_true (leb (u.size * get_or image place 0) (length image - (place + 1))) _ e in
           let h : p ≤ length image = omega (arith, leb-true (u.size * get_or image place 0) (length image - (place + 1)) g.0) in
-          rw q (table_reads (To p) (comes_by image _ _ (To p) (right_walk u f image (place + 1) (get_or image place 0) e) (comes_to image _ p h)))
+          rw q (table_reads (Ok p) (comes_by image _ _ (Ok p) (right_walk u f image (place + 1) (get_or image place 0) e) (comes_to image _ p h)))

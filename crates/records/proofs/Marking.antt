@@ -1,5 +1,5 @@
 -- The laws of marks: how they are stored twice over, how two that are the same are found, and that identities whose marks all differ are apart.
-use Prim.Native.Nat.{ℕ, zero, suc, ◌+◌, ◌-◌, ◌<◌, ◌≤◌}
+use Prim.Native.Nat.{ℕ, zero, suc, ◌+◌, ◌-◌, ◌<◌, ◌≤◌, min}
 use native.Mathlib.Omega.{arith}
 use native.Mathlib.Nat.{add-zero}
 use native.Mathlib.Numerals.{add-one}
@@ -118,6 +118,14 @@ reach_few n l = rw (lt-ltb n 17 l, reach_of)
 pub reach_many : (n : ℕ) → 17 ≤ n → reach_of n ≡ 17
 unfolding reach_of
 reach_many n l = rw (le-ltb n 17 l, reach_of)
+
+-- both at once
+pub reach_min : (n : ℕ) → min n 17 ≡ reach_of n
+reach_min n = go (ltb n 17) refl
+  where
+    go : (b : Bool) → ltb n 17 ≡ b → min n 17 ≡ reach_of n
+    go true e = let l = ltb-true n 17 e in rw (reach_few n l) (omega arith)
+    go false e = let l = ltb-false n 17 e in rw (reach_many n l) (omega arith)
 
 -- 3. None are the same ----------------------------------------------------------------------------------------------------------------------
 

@@ -1,5 +1,5 @@
 -- The identity of a record, what no two records of a table may share, as two words; and whether some identities repeat one.
-use Rattle.std.specs.Prelude.{ℕ, Bool, true, false, ◌&&◌, ◌||◌, not, List, [], ◌∷◌, get_or, take, drop, eqb}
+use Rattle.std.specs.Prelude.{ℕ, Bool, true, false, ◌&&◌, ◌||◌, not, List, [], ◌∷◌, take, drop, eqb}
 use Rattle.model.specs.Octets.{Octets}
 use Rattle.model.specs.Tables.{rule_at}
 use Rattle.octets.specs.Numbers.{little}
@@ -26,21 +26,3 @@ among a (b ∷ bs) = same_identity a b || among a bs
 unfoldable pub apart : List Identity → Bool
 apart [] = true
 apart (a ∷ bs) = not (among a bs) && apart bs
-
--- two lists of words as identities
-unfoldable pub paired : List ℕ → List ℕ → List Identity
-paired [] ys = []
-paired (x ∷ xs) [] = []
-paired (x ∷ xs) (y ∷ ys) = record { low = x; high = y } ∷ paired xs ys
-
--- the first n identities of two lists of words
-unfoldable pub collected : List ℕ → List ℕ → ℕ → List Identity
-collected low high n = paired (take n low) (take n high)
-
--- those of them from number i on
-unfoldable pub behind : List ℕ → List ℕ → (n i : ℕ) → List Identity
-behind low high n i = paired (drop i (take n low)) (drop i (take n high))
-
--- identity number i
-abbrev pub numbered : List ℕ → List ℕ → ℕ → Identity
-numbered low high i = record { low = get_or low i 0; high = get_or high i 0 }

@@ -1,10 +1,9 @@
 -- Marks: numbers of 32 bits, one for each identity. Two identities that are one have one mark, so records whose marks all differ have no
 -- repeat. 32 marks are held twice over, one row behind the other: then those that stand d apart in the round stand d apart in the list.
-use Rattle.std.specs.Prelude.{ℕ, zero, suc, ◌+◌, ◌-◌, ◌*◌, ◌/◌, ◌%◌, ◌<◌, ◌≤◌, ◌≡◌, Bool, true, false, ◌&&◌, ◌||◌, List, map, length, get_or, set, take, eqb, ltb}
+use Rattle.std.specs.Prelude.{Option, MatchOption, ℕ, zero, suc, ◌+◌, ◌-◌, ◌*◌, ◌/◌, ◌%◌, ◌<◌, ◌≤◌, ◌≡◌, Bool, true, false, ◌&&◌, ◌||◌, List, map, length, get_or, set, take, eqb, ltb}
 use Rattle.model.specs.Octets.{Octets}
 use Rattle.model.specs.Tables.{every, record_ok, rule_at}
 use Rattle.records.specs.declared.Identity.{Identity}
-use Rattle.records.specs.declared.Looked.{Looked}
 use Rattle.records.specs.Slots.{free_zero, records_at}
 use Rattle.records.specs.Identities.{identity_of}
 
@@ -37,10 +36,12 @@ pub record Marked (ds : List Identity) (n : ℕ) (ms : List ℕ) : Type 0 where
 abbrev pub slots_keep_rules : (k : ℕ) → Octets → (size place n w : ℕ) → Bool
 slots_keep_rules k s size place n w = free_zero s size place n w && every (record_ok (rule_at k)) (records_at s size place n w)
 
--- slots were looked at: whether they are fine, and if so their records are marked and counted
-pub record Checked (k : ℕ) (s : Octets) (place n w : ℕ) (r : Looked) (ms : List ℕ) : Type 0 where
-  pub valid : r.valid ≡ slots_keep_rules k s (rule_at k).size place n w
-  pub marked : r.valid ≡ true → Marked (map (identity_of k) (records_at s (rule_at k).size place n w)) r.found ms
+-- slots were looked at: none is told where one of them is not fine; else it is told how many records there are, and they are marked
+abbrev pub Checked : (k : ℕ) → Octets → (place n w : ℕ) → Option ℕ → List ℕ → Type 0
+Checked k s place n w r ms =
+    MatchOption r (slots_keep_rules k s (rule_at k).size place n w ≡ false)
+    (λ found. (slots_keep_rules k s (rule_at k).size place n w ≡ true)
+    × Marked (map (identity_of k) (records_at s (rule_at k).size place n w)) found ms)
 
 -- of n marks from number i on, one is the same as the one d behind it
 unfoldable pub meet_from : List ℕ → (d i n : ℕ) → Bool

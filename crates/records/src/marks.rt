@@ -29,11 +29,9 @@ pub fn put_mark(marks: &mut [u32; 64], i: usize, m: u32)
 pub fn no_marks() -> [u32; 64]
     ensures { Doubled result }
 {
-    let mut marks: [u32; 64] = [0; 64];
-    let mut i: usize = 0;
-    while i < 32 {
+    let mut marks = [0; 64];
+    for i in 0..32 {
         put_mark(&mut marks, i, i as u32);
-        i += 1;
     }
     marks
 }
@@ -43,13 +41,12 @@ fn meet_at(marks: &[u32; 64], d: usize) -> bool
     requires { d ≤ 32 }
     ensures { result ≡ meet_at marks.now d }
 {
+    // A flag, and no `any`: with no way out of the loop the compiler compares a row of marks at once (docs/DECISIONS.md, 60).
     let mut met = false;
-    let mut i: usize = 0;
-    while i < 32 {
+    for i in 0..32 {
         if marks[i] == marks[i + d] {
             met = true;
         }
-        i += 1;
     }
     met
 }
@@ -58,23 +55,17 @@ fn meet_at(marks: &[u32; 64], d: usize) -> bool
 fn reach(n: usize) -> usize
     ensures { (result ≡ reach_of n) × (result ≤ 17) }
 {
-    if n < 17 {
-        return n;
-    }
-    17
+    n.min(17)
 }
 
 // Whether two of the first n marks are the same. Marks behind those are compared too, and differ.
 pub fn meet(marks: &[u32; 64], n: usize) -> bool
     ensures { result ≡ meet_any marks.now n }
 {
-    let end = reach(n);
-    let mut d: usize = 1;
-    while d < end {
+    for d in 1..reach(n) {
         if meet_at(marks, d) {
             return true;
         }
-        d += 1;
     }
     false
 }

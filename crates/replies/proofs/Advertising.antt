@@ -1,11 +1,11 @@
 -- The events about advertising instances: how long they are, and how those of the five instances are written one after the other.
 -- Assumes nothing.
 use mathlib.Core.Path.{◌≡◌, refl}
-use Prim.Native.Nat.{ℕ, ◌+◌, ◌≤◌}
+use Prim.Native.Nat.{ℕ, zero, suc, ◌+◌, ◌*◌, ◌≤◌, ◌<◌}
 use native.Mathlib.Omega.{arith}
 use mathlib.Core.Bool.{Bool, true, false, ◌&&◌, not}
-use mathlib.Core.List.{List, [], ◌∷◌, ◌++◌, append-nil}
-use lib.ListN.{length, get_or, length-append}
+use mathlib.Core.List.{[], ◌∷◌, ◌++◌, append-nil, append_assoc}
+use lib.ListN.{length, get_or, take, length-append}
 use lib.Dec.{eqb}
 use borrow.Author.Tests.{eq-eqb, ne_eqb}
 use Rattle.model.specs.Events as Events
@@ -61,7 +61,7 @@ told_gone d e at i k b a n z w = rw (removed_gone i k b a n z, length_instance E
 -- ALL FIVE ------------------------------------------------------------------------------------------------------------------------------------
 
 -- Advertising Removed of all instances is that of each, ascending
-pub removed_is : (i : ℕ) (s t : Schedule) → removed_of i s t instances
+removed_is : (i : ℕ) (s t : Schedule) → removed_of i s t instances
     ≡ instance_removed i 1 (get_or s.durations 0 0) (get_or t.durations 0 0) ++ (instance_removed i 2 (get_or s.durations 1 0) (get_or t.durations 1 0)
     ++ (instance_removed i 3 (get_or s.durations 2 0) (get_or t.durations 2 0) ++ (instance_removed i 4 (get_or s.durations 3 0) (get_or t.durations 3 0)
     ++ instance_removed i 5 (get_or s.durations 4 0) (get_or t.durations 4 0))))
@@ -83,20 +83,26 @@ removed_most i s t =
       removed_short i 5 (get_or d 4 0) (get_or e 4 0),
     ))
 
--- what is told of instance k of two rows of durations, at its place j
-abbrev told_at : ℕ → List ℕ → List ℕ → ℕ → ℕ → Octets
-told_at i s t k j = instance_removed i k (get_or s j 0) (get_or t j 0)
+-- what is told of the instances up to k + 1 is what is told of those up to k, and of that one behind it
+pub removed_next : (i : ℕ) (s t : Schedule) (k : ℕ) → k < 5 → removed_of i s t (take (k + 1) instances)
+    ≡ removed_of i s t (take k instances) ++ instance_removed i (k + 1) (get_or s.durations k 0) (get_or t.durations k 0)
+unfolding removed_of present duration_of value_of instance_removed
+removed_next i s t zero h = simp append-nil
+removed_next i s t (suc zero) h = simp append-nil
+removed_next i s t (suc (suc zero)) h = simp (append-nil, append_assoc)
+removed_next i s t (suc (suc (suc zero))) h = simp (append-nil, append_assoc)
+removed_next i s t (suc (suc (suc (suc zero)))) h = simp (append-nil, append_assoc)
+removed_next i s t (suc (suc (suc (suc (suc k))))) h = absurd (omega (arith, h))
 
--- so the code's row of writes, each at the place behind the one before, is a write of them all
-pub removed_row : (i : ℕ) (s t : Schedule) (at p q u v r : ℕ) (d d1 d2 d3 d4 d5 : Octets)
-    → p ≡ at + length (told_at i s.durations t.durations 1 0) → d1 ≡ write_at d at (told_at i s.durations t.durations 1 0)
-    → q ≡ p + length (told_at i s.durations t.durations 2 1) → d2 ≡ write_at d1 p (told_at i s.durations t.durations 2 1)
-    → u ≡ q + length (told_at i s.durations t.durations 3 2) → d3 ≡ write_at d2 q (told_at i s.durations t.durations 3 2)
-    → v ≡ u + length (told_at i s.durations t.durations 4 3) → d4 ≡ write_at d3 u (told_at i s.durations t.durations 4 3)
-    → r ≡ v + length (told_at i s.durations t.durations 5 4) → d5 ≡ write_at d4 v (told_at i s.durations t.durations 5 4)
-    → (length (removed_of i s t instances) ≤ 35) × (r ≡ at + length (removed_of i s t instances)) × (d5 ≡ write_at d at (removed_of i s t instances))
-removed_row i s t at p q u v r d d1 d2 d3 d4 d5 ep e1 eq e2 eu e3 ev e4 er e5 = (
-  removed_most i s t,
-  rw (removed_is, length-append, length-append, length-append, length-append) (omega arith),
-  rw (removed_is, write_split, write_split, write_split, write_split) (cc),
+-- what is told of one instance more, behind what was told before it
+pub told_next : (i : ℕ) (s t : Schedule) (k at p q : ℕ) (d e f : Octets) → k < 5 → length (removed_of i s t (take k instances)) ≤ 7 * k
+    → p ≡ at + length (removed_of i s t (take k instances)) → e ≡ write_at d at (removed_of i s t (take k instances))
+    → q ≡ p + length (instance_removed i (k + 1) (get_or s.durations k 0) (get_or t.durations k 0))
+    → f ≡ write_at e p (instance_removed i (k + 1) (get_or s.durations k 0) (get_or t.durations k 0))
+    → (length (removed_of i s t (take (k + 1) instances)) ≤ 7 * (k + 1)) × (q ≡ at + length (removed_of i s t (take (k + 1) instances)))
+    × (f ≡ write_at d at (removed_of i s t (take (k + 1) instances)))
+told_next i s t k at p q d e f h m ep ee eq ef = (
+  rw (removed_next i s t k h, length-append) (omega (arith, m, removed_short i (k + 1) (get_or s.durations k 0) (get_or t.durations k 0))),
+  rw (removed_next i s t k h, length-append) (omega (arith, ep, eq)),
+  rw (removed_next i s t k h, write_split) (cc),
 )

@@ -6,7 +6,7 @@ ghost use Rattle.model.specs.Events as Events;
 ghost use Rattle.model.specs.Octets.{le32, command_complete, command_status};
 ghost use Rattle.model.specs.Octets as Octets;
 ghost use Rattle.model.specs.Advertising.{removed_of, instances};
-ghost use Rattle.octets.specs.Parts.{part, write_at};
+ghost use Rattle.octets.specs.Parts.{write_at};
 ghost use Rattle.replies.specs.Frames as Frames;
 ghost use Rattle.model.specs.Answers.{fault_number, number_of, count_of, offset_of};
 ghost use Rattle.model.specs.declared.Answer.TheVariants.{Refused};
@@ -51,16 +51,8 @@ pub fn count(a: Answer) -> usize
     ensures { result ≡ count_of a }
 {
     match a {
-        Answer::Done(n) => n,
-        Answer::Started => 0,
-        Answer::Refused(n) => n,
-        Answer::BadPacket => 0,
-        Answer::SmallBuffer => 0,
-        Answer::BadState => 0,
-        Answer::BadArgument => 0,
-        Answer::BadImage(_, _) => 0,
-        Answer::NotInImage => 0,
-        Answer::Incomplete => 0,
+        Answer::Done(n) | Answer::Refused(n) => n,
+        _ => 0,
     }
 }
 
@@ -69,16 +61,8 @@ pub fn offset(a: Answer) -> usize
     ensures { result ≡ offset_of a }
 {
     match a {
-        Answer::Done(_) => 0,
-        Answer::Started => 0,
-        Answer::Refused(_) => 0,
-        Answer::BadPacket => 0,
-        Answer::SmallBuffer => 0,
-        Answer::BadState => 0,
-        Answer::BadArgument => 0,
         Answer::BadImage(_, at) => at,
-        Answer::NotInImage => 0,
-        Answer::Incomplete => 0,
+        _ => 0,
     }
 }
 
@@ -121,24 +105,6 @@ pub fn command_complete(out: &mut [u8], at: usize, index: u64, code: u64, status
     octets::copy_into(out, at + 9, params);
 }
 
-// Command Complete whose return parameters are the n octets of src from `from` on.
-pub fn command_complete_part(
-    out: &mut [u8],
-    at: usize,
-    index: u64,
-    code: u64,
-    status: u8,
-    src: &[u8],
-    from: usize,
-    n: usize,
-)
-    requires { (at + 9 + n ≤ length out.old) × (from + n ≤ length src.now) }
-    ensures { out.new ≡ write_at out.old at (command_complete index code status (part src.now from n)) }
-{
-    complete_head(out, at, index, code, status, n);
-    octets::copy_part(out, at + 9, src, from, n);
-}
-
 // An event, 6 octets and the parameters.
 pub fn event(out: &mut [u8], at: usize, code: u64, index: u64, params: &[u8])
     requires { at + 6 + length params.now ≤ length out.old }
@@ -146,23 +112,6 @@ pub fn event(out: &mut [u8], at: usize, code: u64, index: u64, params: &[u8])
 {
     event_head(out, at, code, index, params.len() as u64);
     octets::copy_into(out, at + 6, params);
-}
-
-// An event whose parameters are the n octets of src from `from` on.
-pub fn event_part(
-    out: &mut [u8],
-    at: usize,
-    code: u64,
-    index: u64,
-    src: &[u8],
-    from: usize,
-    n: usize,
-)
-    requires { (at + 6 + n ≤ length out.old) × (from + n ≤ length src.now) }
-    ensures { out.new ≡ write_at out.old at (Octets.event code index (part src.now from n)) }
-{
-    event_head(out, at, code, index, n as u64);
-    octets::copy_part(out, at + 6, src, from, n);
 }
 
 // New Settings, 10 octets.
@@ -204,10 +153,7 @@ fn instance_removed(
     ensures { (result ≤ at + 7) × (result ≡ at + length (Frames.instance_removed index k before after))
         × (reply.new ≡ write_at reply.old at (Frames.instance_removed index k before after)) }
 {
-    if before == 0 {
-        return at;
-    }
-    if after == 0 {
+    if before != 0 && after == 0 {
         instance_event(reply, at, events::ADVERTISING_REMOVED, index, k);
         return at + 7;
     }
@@ -226,13 +172,18 @@ pub fn advertising_removed(
     ensures { (length (removed_of index before after instances) ≤ 35) × (result ≡ at + length (removed_of index before after instances))
         × (reply.new ≡ write_at reply.old at (removed_of index before after instances)) }
 {
-    let b = before.durations;
-    let a = after.durations;
-    let second = instance_removed(reply, at, index, 1, b[0], a[0]);
-    let third = instance_removed(reply, second, index, 2, b[1], a[1]);
-    let fourth = instance_removed(reply, third, index, 3, b[2], a[2]);
-    let fifth = instance_removed(reply, fourth, index, 4, b[3], a[3]);
-    instance_removed(reply, fifth, index, 5, b[4], a[4])
+    let mut end = at;
+    for k in 0..5 {
+        end = instance_removed(
+            reply,
+            end,
+            index,
+            k as u8 + 1,
+            before.durations[k],
+            after.durations[k],
+        );
+    }
+    end
 }
 
 // What a settings command answers when it acts: Command Complete with the settings, then New Settings if they changed. Returns the count of octets.
@@ -263,6 +214,6 @@ pub fn refuse_address(reply: &mut [u8], index: u64, code: u64, status: u8, ps: &
     requires { (16 ≤ length reply.old) × (7 ≤ length ps.now) }
     ensures { (result ≡ Refused 16) × (reply.new ≡ write_at reply.old 0 (command_complete index code status (take 7 ps.now))) }
 {
-    command_complete_part(reply, 0, index, code, status, ps, 0, 7);
+    command_complete(reply, 0, index, code, status, &ps[..7]);
     Answer::Refused(16)
 }

@@ -53,15 +53,10 @@ names_written d d1 d2 a b z la lb e f =
     ∙ rw (padded_written 249 a la, padded_written 11 b lb))
 
 -- so the names are put into the state
-pub names_put : (s t : Octets) (i : ℕ) (image d d1 d2 : Octets) (first n second m : ℕ) → n ≤ 249 → m ≤ 11 → first + n ≤ length image → second + m ≤ length image
-    → d ≡ replicate 260 0 → d1 ≡ write_at d 0 (part image first n) → d2 ≡ write_at d1 249 (part image second m)
-    → t ≡ encode (put_controller (decode s) i (with_host (controller_of s i) (with_name (controller_of s i).host d2)))
-    → t ≡ encode (put_controller (decode s) i (with_host (controller_of s i)
-    (with_name (controller_of s i).host (padded 249 (part image first n) ++ padded 11 (part image second m)))))
-names_put s t i image d d1 d2 first n second m ln lm a b z e f g =
-    let x = length_part image first n a in
-    let y = length_part image second m b in
-    g ∙ rw (names_written d d1 d2 (part image first n) (part image second m) z (omega arith) (omega arith) e f)
+pub names_put : (s t : Octets) (i : ℕ) (d d1 d2 a b : Octets) → length a ≤ 249 → length b ≤ 11 → d ≡ replicate 260 0 → d1 ≡ write_at d 0 a
+    → d2 ≡ write_at d1 249 b → t ≡ encode (put_controller (decode s) i (with_host (controller_of s i) (with_name (controller_of s i).host d2)))
+    → t ≡ encode (put_controller (decode s) i (with_host (controller_of s i) (with_name (controller_of s i).host (padded 249 a ++ padded 11 b))))
+names_put s t i d d1 d2 a b la lb z e f g = g ∙ rw (names_written d d1 d2 a b z la lb e f)
 
 -- 2. A name by its field -----------------------------------------------------------------------------------------------------------------------------
 

@@ -11,14 +11,12 @@ ghost use Rattle.model.specs.Reading.{hub_of, items, walk};
 ghost use Rattle.model.specs.Layout.{decode, encode};
 ghost use Rattle.model.specs.Answers.{count_of, number_of, offset_of};
 ghost use Rattle.model.specs.Meanings.{hub_load, state_ok};
-ghost use Rattle.octets.specs.Parts.{part};
 ghost use Rattle.layout.specs.Places.{Ready, controller_of, open_at, present_at, put_controller};
 ghost use Rattle.fields.specs.Places.{fixed_end, names_in};
 ghost use Rattle.reading.specs.Contents.{Parsed, Placed, controller_in, tables_in};
 ghost use Rattle.restore.specs.Filling.{NamesFit, found, length_octets, with_tables};
 
 use model::{Answer, Version, lengths};
-use reading::Judgement;
 
 // Fills the six tables of the controller at an index from those that lie at a place of the image. Gives the place behind them.
 fn fill_tables(state: &mut [u8], index: u64, image: &[u8], at: usize) -> usize
@@ -30,39 +28,30 @@ fn fill_tables(state: &mut [u8], index: u64, image: &[u8], at: usize) -> usize
         × (drop result image.now ≡ m.behind) }
 {
     let mut p = at;
-    let mut k: usize = 0;
-    while k < 6 {
-        let n = image[p] as usize;
+    for k in 0..6 {
+        let n = usize::from(image[p]);
         let size = records::size_of(k);
         table::load(state, layout::table_place(index, k), size, image, p + 1, n);
-        p = p + 1 + size * n;
-        k += 1;
+        p += 1 + size * n;
     }
     p
 }
 
-// Gives the controller at an index the name and the short name that lie at two places of the image, n and m octets; zeros stand behind each.
-fn put_names(
-    state: &mut [u8],
-    index: u64,
-    image: &[u8],
-    first: usize,
-    n: usize,
-    second: usize,
-    m: usize,
-)
-    requires { Ready state.old index × (n ≤ 249) × (m ≤ 11) × (first + n ≤ length image.now) × (second + m ≤ length image.now) }
+// Gives the controller at an index a name and a short name; zeros stand behind each.
+fn put_names(state: &mut [u8], index: u64, name: &[u8], short_name: &[u8])
+    requires { Ready state.old index × (length name.now ≤ 249) × (length short_name.now ≤ 11) }
     ensures { state.new ≡ encode (put_controller (decode state.old) index
         (with_host (controller_of state.old index) (with_name (controller_of state.old index).host
-        (padded 249 (part image.now first n) ++ padded 11 (part image.now second m))))) }
+        (padded 249 name.now ++ padded 11 short_name.now)))) }
 {
-    let mut names: [u8; 260] = [0; 260];
-    octets::copy_part(&mut names, 0, image, first, n);
-    octets::copy_part(&mut names, 249, image, second, m);
+    let mut names = [0u8; 260];
+    octets::copy_into(&mut names, 0, name);
+    octets::copy_into(&mut names, 249, short_name);
     layout::put_name(state, index, &names);
 }
 
 // How many octets of a name's field stand before the name: in version 2 its length octet.
+#[tactic(auto, unfolding(crate::specs::Filling::length_octets))]
 fn length_octets(version: Version) -> usize
     ensures { result ≡ length_octets version }
 {
@@ -73,6 +62,7 @@ fn length_octets(version: Version) -> usize
 }
 
 // Gives the controller at an index the names of the fixed part at a place of the image. Gives the place behind that part.
+#[tactic(auto, using(crate::proofs::Names::name_begins, crate::proofs::Names::short_begins, crate::proofs::Names::names_at))]
 fn fill_names(version: Version, state: &mut [u8], index: u64, image: &[u8], at: usize) -> usize
     requires { Ready state.old index × NamesFit version (drop at image.now) }
     ensures { (result ≡ at + fixed_end version (drop at image.now))
@@ -82,19 +72,15 @@ fn fill_names(version: Version, state: &mut [u8], index: u64, image: &[u8], at: 
 {
     let head = length_octets(version);
     let name = at + 24;
-    let n = fields::name_size(version, 249, image, name);
-    let short = name + n;
-    let m = fields::name_size(version, 11, image, short);
+    let short = name + fields::name_size(version, 249, image, name);
+    let end = short + fields::name_size(version, 11, image, short);
     put_names(
         state,
         index,
-        image,
-        name + head,
-        n - head,
-        short + head,
-        m - head,
+        &image[name + head..short],
+        &image[short + head..end],
     );
-    short + m
+    end
 }
 
 // Fills the block of the absent index with the controller that lies at a place of the image. Gives the place behind it.
@@ -106,9 +92,7 @@ fn fill_controller(version: Version, state: &mut [u8], index: u64, image: &[u8],
         × (drop result image.now ≡ g.behind) }
 {
     let m = fields::settings_in(version, image, at);
-    let r = m.radio;
-    let f = r.hardware;
-    layout::fill_block(state, index, f);
+    layout::fill_block(state, index, m.radio.hardware);
     layout::put_settings(state, index, m);
     let tables = fill_names(version, state, index, image, at);
     fill_tables(state, index, image, tables)
@@ -120,11 +104,9 @@ fn fill(version: Version, state: &mut [u8], image: &[u8])
     ensures { state.new ≡ encode (idle (hub_of (walk version (drop 5 image.now)))) }
 {
     octets::zero_fill(state, 0, lengths::STATE);
-    let mut left = image[5];
     let mut at: usize = 6;
-    while 0 < left {
-        at = fill_controller(version, state, image[at] as u64, image, at);
-        left = left - 1;
+    for _ in 0..image[5] {
+        at = fill_controller(version, state, u64::from(image[at]), image, at);
     }
 }
 
@@ -135,16 +117,14 @@ pub fn load(state: &mut [u8], image: &[u8]) -> Answer
         × (offset_of result ≡ (hub_load state.old image.now).offset)
         × (state.new ≡ (hub_load state.old image.now).state) }
 {
-    if state.len() == lengths::STATE {
-        match reading::judge_either(image) {
-            Judgement::Acceptable(version) => {
-                fill(version, state, image);
-                return Answer::Done(0);
-            }
-            Judgement::Faulty(fault, place) => {
-                return Answer::BadImage(fault, place);
-            }
-        }
+    if state.len() != lengths::STATE {
+        return Answer::BadState;
     }
-    Answer::BadState
+    match reading::judge_either(image) {
+        Ok(version) => {
+            fill(version, state, image);
+            Answer::Done(0)
+        }
+        Err(f) => Answer::BadImage(f.fault, f.at),
+    }
 }

@@ -1,6 +1,6 @@
 -- What a decision says is what the model answers with nothing under way: the number, the count, and the status of a refusal.
 -- Assumes nothing.
-use Rattle.std.proofs.Common.{◌≡◌, ℕ, Bool, true, false, eqb, length, refl, arith, eq-eqb}
+use Rattle.std.proofs.Common.{◌≡◌, ℕ, Bool, true, false, length, refl, arith, eq-eqb}
 use mathlib.Core.Option.{Option, none, some}
 use Rattle.model.specs.Octets.{Octets, command_status}
 use Rattle.model.specs.State.{Controller, Hub}

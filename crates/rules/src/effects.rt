@@ -1,10 +1,11 @@
 // What the settings commands and the clock make of a controller's settings.
+#![tactic(auto, using(crate::proofs::Laws::six_whole), unfolding(crate::specs::Effects::settings_effect, crate::specs::Effects::settings_timer, crate::specs::Effects::settings_bondable, crate::specs::Effects::controller_of, crate::specs::Effects::controller_with, model::specs::Rules::on, model::specs::Rules::set_powered, model::specs::Rules::set_discoverable, model::specs::Rules::set_connectable, model::specs::Rules::set_low_energy, model::specs::Rules::set_bredr, model::specs::Rules::set_static_address, model::specs::State::settings_of, model::specs::State::no_timer, model::specs::State::with_timer, model::specs::State::with_powered, model::specs::State::with_connectable, model::specs::State::with_low_energy, model::specs::State::with_bredr, model::specs::State::with_static_address, model::specs::State::with_schedule, model::specs::State::with_advertising, model::specs::Octets::octet))]
+
 ghost use Rattle.std.specs.Prelude.{◌≡◌, length};
 ghost use Rattle.model.specs.State as State;
 ghost use Rattle.model.specs.Rules.{set_powered, set_discoverable, set_connectable, set_low_energy, set_bredr, set_static_address};
 ghost use Rattle.rules.specs.Effects.{settings_effect, settings_timer, settings_bondable};
 
-use crate::both;
 use model::{HostSettings, RadioSettings, Settings, Timer};
 
 // Not discoverable, and no timer.
@@ -21,14 +22,9 @@ pub fn no_timer() -> Timer
 pub fn with_timer(m: Settings, t: Timer) -> Settings
     ensures { result ≡ settings_timer m t }
 {
-    let r = m.radio;
-    let h = m.host;
     Settings {
-        radio: r,
-        host: HostSettings {
-            timer: t,
-            bondable: h.bondable,
-        },
+        host: HostSettings { timer: t, ..m.host },
+        ..m
     }
 }
 
@@ -36,15 +32,12 @@ pub fn with_timer(m: Settings, t: Timer) -> Settings
 pub fn with_bondable(m: Settings, b: bool) -> Settings
     ensures { result ≡ settings_bondable m b }
 {
-    let r = m.radio;
-    let h = m.host;
-    let t = h.timer;
     Settings {
-        radio: r,
         host: HostSettings {
-            timer: t,
             bondable: b,
+            ..m.host
         },
+        ..m
     }
 }
 
@@ -53,22 +46,12 @@ pub fn effect_powered(m: Settings, ps: &[u8]) -> Settings
     requires { length ps.now ≡ 1 }
     ensures { result ≡ settings_effect set_powered m ps.now }
 {
-    let on = ps[0] == 1;
-    let r = m.radio;
-    let f = r.hardware;
-    let own = r.static_address;
-    let h = m.host;
-    let t = h.timer;
-    let radio = RadioSettings {
-        hardware: f,
-        powered: on,
-        connectable: r.connectable,
-        bredr: r.bredr,
-        low_energy: r.low_energy,
-        static_address: own,
+    let powered = ps[0] == 1;
+    let d = Settings {
+        radio: RadioSettings { powered, ..m.radio },
+        ..m
     };
-    let d = Settings { radio, host: h };
-    if both(!on, t.seconds != 0) {
+    if !powered && m.host.timer.seconds != 0 {
         return with_timer(d, no_timer());
     }
     d
@@ -91,24 +74,19 @@ pub fn effect_connectable(m: Settings, ps: &[u8]) -> Settings
     requires { length ps.now ≡ 1 }
     ensures { result ≡ settings_effect set_connectable m ps.now }
 {
-    let on = ps[0] == 1;
-    let r = m.radio;
-    let f = r.hardware;
-    let own = r.static_address;
-    let h = m.host;
-    let radio = RadioSettings {
-        hardware: f,
-        powered: r.powered,
-        connectable: on,
-        bredr: r.bredr,
-        low_energy: r.low_energy,
-        static_address: own,
+    let connectable = ps[0] == 1;
+    let d = Settings {
+        radio: RadioSettings {
+            connectable,
+            ..m.radio
+        },
+        ..m
     };
-    let d = Settings { radio, host: h };
-    if on {
-        return d;
+    if connectable {
+        d
+    } else {
+        with_timer(d, no_timer())
     }
-    with_timer(d, no_timer())
 }
 
 // What Set Low Energy makes of the settings.
@@ -116,20 +94,13 @@ pub fn effect_low_energy(m: Settings, ps: &[u8]) -> Settings
     requires { length ps.now ≡ 1 }
     ensures { result ≡ settings_effect set_low_energy m ps.now }
 {
-    let on = ps[0] == 1;
-    let r = m.radio;
-    let f = r.hardware;
-    let own = r.static_address;
-    let h = m.host;
-    let radio = RadioSettings {
-        hardware: f,
-        powered: r.powered,
-        connectable: r.connectable,
-        bredr: r.bredr,
-        low_energy: on,
-        static_address: own,
-    };
-    Settings { radio, host: h }
+    Settings {
+        radio: RadioSettings {
+            low_energy: ps[0] == 1,
+            ..m.radio
+        },
+        ..m
+    }
 }
 
 // What Set BR/EDR makes of the settings: when it goes off, discoverable goes too.
@@ -137,24 +108,12 @@ pub fn effect_bredr(m: Settings, ps: &[u8]) -> Settings
     requires { length ps.now ≡ 1 }
     ensures { result ≡ settings_effect set_bredr m ps.now }
 {
-    let on = ps[0] == 1;
-    let r = m.radio;
-    let f = r.hardware;
-    let own = r.static_address;
-    let h = m.host;
-    let radio = RadioSettings {
-        hardware: f,
-        powered: r.powered,
-        connectable: r.connectable,
-        bredr: on,
-        low_energy: r.low_energy,
-        static_address: own,
+    let bredr = ps[0] == 1;
+    let d = Settings {
+        radio: RadioSettings { bredr, ..m.radio },
+        ..m
     };
-    let d = Settings { radio, host: h };
-    if !on {
-        return with_timer(d, no_timer());
-    }
-    d
+    if bredr { d } else { with_timer(d, no_timer()) }
 }
 
 // What Set Static Address makes of the settings.
@@ -162,17 +121,11 @@ pub fn effect_static_address(m: Settings, ps: &[u8]) -> Settings
     requires { length ps.now ≡ 6 }
     ensures { result ≡ settings_effect set_static_address m ps.now }
 {
-    let own = octets::six(ps, 0);
-    let r = m.radio;
-    let f = r.hardware;
-    let h = m.host;
-    let radio = RadioSettings {
-        hardware: f,
-        powered: r.powered,
-        connectable: r.connectable,
-        bredr: r.bredr,
-        low_energy: r.low_energy,
-        static_address: own,
-    };
-    Settings { radio, host: h }
+    Settings {
+        radio: RadioSettings {
+            static_address: octets::six(ps, 0),
+            ..m.radio
+        },
+        ..m
+    }
 }

@@ -1,7 +1,7 @@
 -- From what the steps of a settings command leave to what the model says of it, over plain values.
 -- Assumes nothing.
 use mathlib.Core.Path.{◌≡◌, refl, ap, sym, ◌∙◌}
-use Prim.Native.Nat.{ℕ, ◌+◌, ◌≤◌, ◌<◌}
+use Prim.Native.Nat.{ℕ, ◌≤◌, ◌<◌}
 use native.Mathlib.Omega.{arith}
 use mathlib.Core.Bool.{Bool, true, false}
 use mathlib.Core.List.{◌++◌, append_assoc}
@@ -204,6 +204,16 @@ module _ (s : Octets) (i : ℕ) (ps : Octets) (u : RadioRule) (x : Decision) (ol
   -- the same, of one that would act at once
   pub act_past : x ≡ Act → first_of (u.before_busy (controller_of s i).radio ps) ≡ none
   act_past e = (act_passes u (controller_of s i).radio ps (f.decided ∙ e)).0
+
+  -- so each decision but one to refuse is
+  pub not_refused : ((st : ℕ) → x ≡ Refuse st → ⊥) → first_of (u.before_busy (controller_of s i).radio ps) ≡ none
+  not_refused n = go x refl
+    where
+      go : (y : Decision) → x ≡ y → first_of (u.before_busy (controller_of s i).radio ps) ≡ none
+      go (Refuse st) e = absurd (n st e)
+      go (Reject st) e = reject_past st e
+      go Wait e = wait_past e
+      go Act e = act_past e
 
 -- 4. The five ---------------------------------------------------------------------------------------------------------------------------------------
 

@@ -1,5 +1,6 @@
 -- The settings before and after tell what a settings command makes of the turns of the advertising; where power and Low Energy stay, so do the turns.
 -- Assumes nothing.
+use Rattle.std.proofs.Math.Bool.{beq}
 use mathlib.Core.Path.{◌≡◌, refl, sym, ap, ◌∙◌}
 use Prim.Native.Nat.{ℕ, ◌+◌, ◌≤◌}
 use native.Mathlib.Omega.{arith}
@@ -16,7 +17,7 @@ use Rattle.model.specs.Advertising.{advertising_removed, duration_of, first_pres
 use Rattle.model.specs.Advertising.{powered_off, present, removed_of, repowered, rescheduled, turn_to, value_of}
 use Rattle.model.specs.State.{Controller, current_settings, settings_of, with_host, with_schedule, with_advertising, with_powered, with_low_energy, with_connectable}
 use Rattle.model.specs.State.{with_bredr, with_static_address}
-use Rattle.model.specs.Rules.{RadioRule, on, same_bool, set_powered, set_discoverable, set_connectable, set_low_energy, set_bredr, set_static_address}
+use Rattle.model.specs.Rules.{RadioRule, on, set_powered, set_discoverable, set_connectable, set_low_energy, set_bredr, set_static_address}
 use Rattle.model.specs.WellFormed.{controller_ok, schedule_ok, times_fit, times_ok, turn_ok}
 use Rattle.model.proofs.Model.Tests.{and_true, equal, no_way, not-false, not-true}
 use Rattle.model.proofs.Model.Schedule.{schedule_fit, off_while_off, times_many}
@@ -253,11 +254,12 @@ pub turned_on : (old new : RadioSettings) (was next : Schedule) → not new.low_
 unfolding turns_after
 turned_on old new was next off e = rw (not-false new.low_energy off) e
 
--- the code's test of two settings is the model's
-pub same_is : (a b r : Bool) → r ≡ same_bool a b → r ≡ true → a ≡ b
-unfolding same_bool
-same_is true b r e t = sym t ∙ e
-same_is false b r e t = sym (not-true b (sym e ∙ t))
+-- two settings of which the test says that they are the same
+pub same_is : (a b : Bool) → beq a b ≡ true → a ≡ b
+same_is true true e = refl
+same_is true false e = sym e
+same_is false true e = e
+same_is false false e = refl
 
 -- the reply alone is at most 23 octets
 pub told_short : (i code old new count : ℕ) → count ≡ length (settings_reply i code old new) → count ≤ 23

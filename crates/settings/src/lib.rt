@@ -6,7 +6,7 @@ ghost use Rattle.model.specs.Codes as Codes;
 ghost use Rattle.model.specs.Lengths as Lengths;
 ghost use Rattle.model.specs.Octets.{u16};
 ghost use Rattle.model.specs.State.{current_settings, settings_of};
-ghost use Rattle.model.specs.Rules.{same_bool, set_bredr, set_connectable, set_discoverable, set_low_energy, set_powered, set_static_address};
+ghost use Rattle.model.specs.Rules.{set_bredr, set_connectable, set_discoverable, set_low_energy, set_powered, set_static_address};
 ghost use Rattle.model.specs.Immediate.{set_bondable};
 ghost use Rattle.model.specs.Layout.{decode, encode};
 ghost use Rattle.model.specs.Meanings.{state_ok};
@@ -89,16 +89,6 @@ fn apply_with_turns(
     Answer::Done(end)
 }
 
-// Whether two settings are both on or both off.
-fn same(a: bool, b: bool) -> bool
-    ensures { result ≡ same_bool a b }
-{
-    if a {
-        return b;
-    }
-    !b
-}
-
 // A command acts: the settings `old` become `new`. Where power and Low Energy stay, so do the turns of the advertising.
 fn apply(
     state: &mut [u8],
@@ -113,12 +103,8 @@ fn apply(
         × (reply.new ≡ write_at reply.old 0 (acted_reply index code old new (schedule_of state.old index)))
         × (state.new ≡ encode (put_controller (decode state.old) index (acted_controller (controller_of state.old index) old new))) }
 {
-    let was = old.radio;
-    let is = new.radio;
-    if same(was.powered, is.powered) {
-        if same(was.low_energy, is.low_energy) {
-            return apply_settings(state, index, code, reply, old, new);
-        }
+    if old.radio.powered == new.radio.powered && old.radio.low_energy == new.radio.low_energy {
+        return apply_settings(state, index, code, reply, old, new);
     }
     apply_with_turns(state, index, code, reply, old, new)
 }
@@ -131,16 +117,7 @@ pub fn set_bondable(state: &mut [u8], index: u64, ps: &[u8], reply: &mut [u8]) -
     ensures { Gives (immediate_command state.old index Codes.set_bondable ps.now set_bondable) result reply.old reply.new
         state.new }
 {
-    if ps.len() != 1 {
-        return replies::refuse(
-            reply,
-            index,
-            codes::SET_BONDABLE,
-            statuses::INVALID_PARAMETERS,
-        );
-    }
-    let v = ps[0];
-    if 1 < v {
+    if ps.len() != 1 || 1 < ps[0] {
         return replies::refuse(
             reply,
             index,
@@ -149,7 +126,7 @@ pub fn set_bondable(state: &mut [u8], index: u64, ps: &[u8], reply: &mut [u8]) -
         );
     }
     let old = layout::settings_at(state, index);
-    let new = rules::effects::with_bondable(old, v == 1);
+    let new = rules::effects::with_bondable(old, ps[0] == 1);
     apply_settings(state, index, codes::SET_BONDABLE, reply, old, new)
 }
 
@@ -174,8 +151,9 @@ fn unless_busy(
         return replies::refuse(reply, index, code, statuses::BUSY);
     }
     match d {
-        Decision::Refuse(status) => replies::refuse(reply, index, code, status),
-        Decision::Reject(status) => replies::refuse(reply, index, code, status),
+        Decision::Refuse(status) | Decision::Reject(status) => {
+            replies::refuse(reply, index, code, status)
+        }
         Decision::Wait => {
             layout::put_open(state, index, code, ps);
             Answer::Started
@@ -201,9 +179,7 @@ fn carry_out(
 {
     match d {
         Decision::Refuse(status) => replies::refuse(reply, index, code, status),
-        Decision::Reject(_) => unless_busy(state, index, code, ps, reply, d, old, new),
-        Decision::Wait => unless_busy(state, index, code, ps, reply, d, old, new),
-        Decision::Act => unless_busy(state, index, code, ps, reply, d, old, new),
+        _ => unless_busy(state, index, code, ps, reply, d, old, new),
     }
 }
 
@@ -347,19 +323,13 @@ fn acted_settings(state: &[u8], at: usize, code: u64, old: Settings) -> Settings
     requires { at + 3 ≤ length state.now }
     ensures { Makes code state.now at old result }
 {
-    if code == codes::SET_POWERED {
-        return rules::effects::effect_powered(old, &state[at..at + 1]);
+    match code {
+        codes::SET_POWERED => rules::effects::effect_powered(old, &state[at..at + 1]),
+        codes::SET_DISCOVERABLE => rules::effects::effect_discoverable(old, &state[at..at + 3]),
+        codes::SET_CONNECTABLE => rules::effects::effect_connectable(old, &state[at..at + 1]),
+        codes::SET_LOW_ENERGY => rules::effects::effect_low_energy(old, &state[at..at + 1]),
+        _ => rules::effects::effect_bredr(old, &state[at..at + 1]),
     }
-    if code == codes::SET_DISCOVERABLE {
-        return rules::effects::effect_discoverable(old, &state[at..at + 3]);
-    }
-    if code == codes::SET_CONNECTABLE {
-        return rules::effects::effect_connectable(old, &state[at..at + 1]);
-    }
-    if code == codes::SET_LOW_ENERGY {
-        return rules::effects::effect_low_energy(old, &state[at..at + 1]);
-    }
-    rules::effects::effect_bredr(old, &state[at..at + 1])
 }
 
 // The command under way acts, on the settings as they are now, and is under way no more.
@@ -379,20 +349,17 @@ pub fn report(state: &mut [u8], index: u64, status: u64, reply: &mut [u8]) -> An
     requires { (state_ok state.old ≡ true) × (length state.old ≡ Lengths.state) × (Lengths.reply_buffer ≤ length reply.old) }
     ensures { Gives (reported state.old index status) result reply.old reply.new state.new }
 {
-    if layout::present(state, index) {
-        let code = layout::open_code(state, index);
-        if code == 0 {
-            return Answer::BadArgument;
-        }
-        if statuses::HIGHEST < status {
-            return Answer::BadArgument;
-        }
-        if status == 0 {
-            return finish(state, index, code, reply);
-        }
-        replies::command_status(reply, 0, index, code, status as u8);
-        layout::clear_open(state, index);
-        return Answer::Done(9);
+    if !layout::present(state, index) {
+        return Answer::BadArgument;
     }
-    Answer::BadArgument
+    let code = layout::open_code(state, index);
+    if code == 0 || statuses::HIGHEST < status {
+        return Answer::BadArgument;
+    }
+    if status == 0 {
+        return finish(state, index, code, reply);
+    }
+    replies::command_status(reply, 0, index, code, status as u8);
+    layout::clear_open(state, index);
+    Answer::Done(9)
 }

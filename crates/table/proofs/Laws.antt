@@ -3,25 +3,30 @@ use mathlib.Core.Path.{◌≡◌, refl, ap, sym, ◌∙◌}
 use Prim.Native.Nat.{ℕ, ◌+◌, ◌*◌, ◌-◌, ◌/◌, ◌%◌, ◌^◌, ◌≤◌, ◌<◌, max}
 use native.Mathlib.Omega.{arith}
 use native.Mathlib.Nat.{mul-add, one-mul}
-use mathlib.Core.Bool.{Bool, true, false}
+use mathlib.Core.Bool.{Bool}
+use mathlib.Core.Bool.{Bool, true, false, not}
 use mathlib.Core.List.{[], ◌∷◌}
 use mathlib.Core.Option.{none, some}
-use lib.ListN.{length, get_or, drop, set, replicate, length-set, drop_of_length-le}
-use mir.Syntax.{w64}
+use lib.ListN.{length, get_or, take, drop, set, replicate, length-set, drop_of_length-le}
+use mir.Syntax.{w32, w64}
 use mir.Val.{Fits}
-use lib.Dec.{ltb}
-use borrow.Author.Tests.{ltb-true, ltb-false}
+use lib.Dec.{eqb, ltb}
+use borrow.Author.Tests.{lt-ltb, ne_eqb}
 use lib.Pow.{shl_exact, pow_pos}
 use lib.Arith.{bin_ind}
-use lib.Bits.{bit_and, bit_or, and_le_l, or_lt, or_step, or_zero_r}
+use lib.Bits.{bit_and, bit_or, or_step, or_zero_r}
 use lib.Count.{count_trailing_zeros, trailing_le, trailing_of_zero}
 use Rattle.model.specs.Octets.{Octets, le32, octet, u32}
 use Rattle.model.specs.Tables.{chop, entries, freed, loaded, free}
 use Rattle.model.specs.Layout.{region}
 use Rattle.model.proofs.Model.Region.{Sized}
+use Rattle.std.proofs.Common.{None, Option, Some}
+use Rattle.std.specs.Option.{is_some}
+use Rattle.std.proofs.lemmas.Nat.Bits.{bit_at-trailing_zeros}
 use Rattle.octets.specs.Parts.{part, write_at}
+use Rattle.octets.proofs.Laws.{lent_part}
 use Rattle.octets.proofs.Parts.{get_d_part, length_write_at}
-use Rattle.table.specs.Slots.{Canonical, InUse, NextUsed, first_at, joined_by_or, table_at}
+use Rattle.table.specs.Slots.{Canonical, IsSlot, NextUsed, first_at, joined_by_or, table_at}
 use Rattle.table.proofs.Slots.{freed_first, freed_none, entries_first, sized_none}
 use Rattle.table.proofs.Regions.{free_at, store_changed, release_changed, load_changed, length_table, length_region, canonical_write}
 use Rattle.table.proofs.Regions.{sized_at, table_write, write_over, write_part}
@@ -49,20 +54,19 @@ one_le_shl64 k h = rw (one_shl64 k h) (pow_pos k)
 pub zeros_fit : (w : ℕ) → Fits w64 (count_trailing_zeros 32 w)
 zeros_fit w = omega (arith, trailing_le 32 w)
 
--- the same, of two words joined by or
-pub or_fits : (w b : ℕ) → w < 4294967296 → b < 4294967296 → Fits w64 (bit_or w b)
-or_fits w b h l = omega (arith, or_lt 32 w b h l)
-
--- the same, of a word that is masked
-pub and_fits : (w b : ℕ) → w < 4294967296 → Fits w64 (bit_and w b)
-and_fits w b h = omega (arith, and_le_l w b)
-
 -- a full word
-pub free_full : (s : Octets) (at size w : ℕ) → w ≡ u32 s at → w < 4294967296 → w ≡ 4294967295 → 32 ≡ free (table_at s at size)
+pub free_full : (s : Octets) (at size w : ℕ) → w ≡ u32 s at → w < 4294967296 → w ≡ 4294967295 → free (table_at s at size) ≡ 32
 free_full s at size w e l f =
     let g : u32 s at ≡ 4294967295 = sym e ∙ f in
     let h : 4294967295 - u32 s at ≡ 0 = omega arith in
-    sym (trailing_of_zero 32) ∙ (rw h at (free_at s at size (omega arith)))
+    sym (sym (trailing_of_zero 32) ∙ (rw h at (free_at s at size (omega arith))))
+
+-- a word that is not full: its lowest zero
+pub free_told : (s : Octets) (at size w : ℕ) → w ≡ u32 s at → w < 4294967296 → (w ≡ 4294967295 → ⊥)
+    → (count_trailing_zeros 32 (4294967295 - w) ≡ free (table_at s at size)) × (count_trailing_zeros 32 (4294967295 - w) < 32)
+free_told s at size w e l n =
+    let p : 0 < 4294967295 - w = positive (4294967295 - w) (λ z. n (omega arith)) in
+    (rw e (free_at s at size (omega arith)), (bit_at-trailing_zeros w32 (4294967295 - w) p (omega arith)).0)
 
 -- writes ------------------------------------------------------------------------------------------------------------------------------------------
 
@@ -87,29 +91,29 @@ release_done s a b at size k w h c l e u p q =
 
 -- n ones as the word, the records of a list, zeros behind them: the list loaded
 pub load_done : (s a b d : Octets) (at size : ℕ) (src : Octets) (from n : ℕ) → n ≤ 32 → from + size * n ≤ length src
-    → a ≡ write_at s at (le32 (1 * 2 ^ n % 18446744073709551616 - 1)) → b ≡ write_at a (at + 4) (part src from (size * n))
+    → a ≡ write_at s at (le32 (1 * 2 ^ n % 18446744073709551616 - 1)) → b ≡ write_at a (at + 4) (take (from + size * n - from) (drop from src))
     → d ≡ write_at b (at + (4 + size * n)) (replicate (size * (32 - n)) 0)
     → d ≡ write_at s at (region size (loaded (chop size n (drop from src))))
 load_done s a b d at size src from n h l p q r =
     let f : 1 * 2 ^ n % 18446744073709551616 ≡ 2 ^ n = one_shl64 n h in
     let g : d ≡ write_at (write_at (write_at s at (le32 (2 ^ n - 1))) (at + 4) (part src from (size * n))) (at + (4 + size * n))
-    (replicate (size * (32 - n)) 0) = rw (← f, ← p, ← q) r in
+    (replicate (size * (32 - n)) 0) = rw (← f, ← p, ← lent_part, ← q) r in
     g ∙ load_changed s at size src from n h l
 
 -- a walk ------------------------------------------------------------------------------------------------------------------------------------------
 
 -- the next slot in use, from the word that was read
 pub next_some_at : (s : Octets) (at k w : ℕ) → k ≤ 32 → w ≡ u32 s at → w < 4294967296 → (w / 2 ^ k ≡ 0 → ⊥)
-    → ((size : ℕ) → NextUsed s at size k (k + count_trailing_zeros 64 (w / 2 ^ k))) × (k ≤ k + count_trailing_zeros 64 (w / 2 ^ k)) × (k + count_trailing_zeros 64 (w / 2 ^ k) ≤ 32)
+    → ((size : ℕ) → NextUsed s at size k (k + count_trailing_zeros 64 (w / 2 ^ k))) × (k ≤ k + count_trailing_zeros 64 (w / 2 ^ k)) × (k + count_trailing_zeros 64 (w / 2 ^ k) < 32)
 next_some_at s at k w h e l n =
     let p : 0 < u32 s at / 2 ^ k = rw e at (positive (w / 2 ^ k) n) in
     let q : (size : ℕ) → (k + count_trailing_zeros 64 (u32 s at / 2 ^ k) < 32)
     × NextUsed s at size k (k + count_trailing_zeros 64 (u32 s at / 2 ^ k)) = λ size. next_some s at size k 64 h (omega arith) (rw e at l) p in
-    rw e (λ size. (q size).1, omega arith, omega (arith, (q 0).0))
+    rw e (λ size. (q size).1, omega arith, (q 0).0)
 
 -- no bit is left in the word: there is no next slot in use
-pub next_none_at : (s : Octets) (at k w : ℕ) → k ≤ 32 → w ≡ u32 s at → w / 2 ^ k ≡ 0 → ((size : ℕ) → NextUsed s at size k 32) × (k ≤ 32) × (32 ≤ 32)
-next_none_at s at k w h e n = (λ size. next_none s at size k h (rw e at n), h, omega arith)
+pub next_none_at : (s : Octets) (at k w : ℕ) → k ≤ 32 → w ≡ u32 s at → w / 2 ^ k ≡ 0 → (size : ℕ) → NextUsed s at size k 32
+next_none_at s at k w h e n = λ size. next_none s at size k h (rw e at n)
 
 -- past the last slot
 pub drop_all : (s : Octets) (at size k : ℕ) → 32 ≤ k → drop k (table_at s at size) ≡ []
@@ -145,38 +149,27 @@ module _ (s : Octets) (at size place : ℕ) where
   abbrev pub Joined : ℕ → ℕ → Type 0
   Joined hints k = bit_or hints (joined_by_or place (entries (drop k (table_at s at size)))) ≡ joined_by_or place (entries (table_at s at size))
 
-  -- it starts at the first slot in use, with nothing joined
-  pub joined_first : (r : ℕ) → NextUsed s at size 0 r → Joined 0 r
-  joined_first r u = rw (← next_entries s at size 0 r u)
-
-  -- the record's octet is joined in, and the walk goes on at the next slot in use
-  pub joined_turn : (hints k r : ℕ) → place < size → InUse s at size k → NextUsed s at size (k + 1) r → Joined hints k
-      → Joined (bit_or hints (get_or s (at + (4 + size * k) + place) 0)) r
+  -- the octet of the next record is joined in, and the walk goes on behind its slot
+  pub joined_turn : (hints k r : ℕ) → place < size → r < 32 → NextUsed s at size k r → Joined hints k
+      → Joined (bit_or hints (get_or s (at + (4 + size * r) + place) 0)) (r + 1)
   unfolding octet
-  joined_turn hints k r l u v e =
-      let p : ℕ = at + (4 + size * k) in
+  joined_turn hints k r l h u e =
+      let p : ℕ = at + (4 + size * r) in
       let o : get_or (part s p size) place 0 ≡ get_or s (p + place) 0 = get_d_part s p size place l in
-      let f : entries (drop k (table_at s at size)) ≡ part s p size ∷ entries (drop r (table_at s at size)) = in_use_entries s at size k u
-      ∙ rw (next_entries s at size (k + 1) r v) in
-      or_assoc hints (get_or s (p + place) 0) (joined_by_or place (entries (drop r (table_at s at size)))) ∙ rw (← o) (rw f at e)
+      let f : entries (drop k (table_at s at size)) ≡ part s p size ∷ entries (drop (r + 1) (table_at s at size)) = next_entries s at size k r u
+      ∙ in_use_entries s at size r (u.used h) in
+      or_assoc hints (get_or s (p + place) 0) (joined_by_or place (entries (drop (r + 1) (table_at s at size)))) ∙ rw (← o) (rw f at e)
 
-  -- past the last slot: all are joined
-  pub joined_last : (hints k : ℕ) → 32 ≤ k → Joined hints k → hints ≡ joined_by_or place (entries (table_at s at size))
+  -- no record is left: all are joined
+  pub joined_last : (hints k : ℕ) → NextUsed s at size k 32 → Joined hints k → hints ≡ joined_by_or place (entries (table_at s at size))
   unfolding entries
-  joined_last hints k l e =
-      let d : drop k (table_at s at size) ≡ [] = drop_all s at size k l in
-      let f : bit_or hints 0 ≡ joined_by_or place (entries (table_at s at size)) = rw d at e in
+  joined_last hints k u e =
+      let d : drop 32 (table_at s at size) ≡ [] = drop_all s at size 32 (omega arith) in
+      let n : entries (drop k (table_at s at size)) ≡ [] = next_entries s at size k 32 u ∙ rw d in
+      let f : bit_or hints 0 ≡ joined_by_or place (entries (table_at s at size)) = rw n at e in
       sym (or_zero_r hints) ∙ f
 
 -- freeing ---------------------------------------------------------------------------------------------------------------------------------------
-
--- a slot that is told and is not 32 is one of the table's
-pub other_slot : (k : ℕ) → k ≤ 32 → (k ≡ 32 → ⊥) → k < 32
-other_slot k l f = go (ltb k 32) refl
-  where
-    go : (b : Bool) → ltb k 32 ≡ b → k < 32
-    go true e = ltb-true k 32 e
-    go false e = absurd (f (omega (arith, ltb-false k 32 e)))
 
 -- While matching slots of the table of s₀ are freed one by one: s differs in the table only, which is laid out as one, and what is still to be freed.
 pub record Freeing (m : Octets → Bool) (s₀ s : Octets) (at size : ℕ) : Type 0 where
@@ -239,9 +232,23 @@ module _ (m : Octets → Bool) (s₀ s d : Octets) (at size k : ℕ)
         rw (table, found) (omega arith)
 
 -- at the end nothing matches any more: all that matched is freed
-pub freeing_last : (m : Octets → Bool) (s₀ s : Octets) (at size k : ℕ) → k ≤ 32 → 32 ≤ k → k ≡ first_at m (table_at s at size) → Freeing m s₀ s at size
+pub freeing_last : (m : Octets → Bool) (s₀ s : Octets) (at size : ℕ) → first_at m (table_at s at size) ≡ 32 → Freeing m s₀ s at size
     → s ≡ write_at s₀ at (region size (freed m (table_at s₀ at size)))
-freeing_last m s₀ s at size k h l e f =
+freeing_last m s₀ s at size e f =
     let n : length (table_at s at size) ≡ 32 = length_table s at size in
     let g : freed m (table_at s at size) ≡ table_at s at size = freed_none m (table_at s at size) (omega arith) in
     rw (← f.left, g) f.now
+
+-- what callers are told -----------------------------------------------------------------------------------------------------------------------------
+
+-- a slot is told if the model's number is one of the 32
+pub told_some : (r : Option ℕ) (n : ℕ) → IsSlot r n → is_some r ≡ ltb n 32
+told_some None n e = rw e
+told_some (Some k) n e = sym (lt-ltb n 32 (omega arith))
+
+-- and none if it is 32
+pub told_none : (r : Option ℕ) (n : ℕ) (b : Bool) → is_some r ≡ not b → IsSlot r n → b ≡ eqb n 32
+told_none None n true t e = rw e
+told_none None n false t e = absurd (cc)
+told_none (Some k) n true t e = absurd (cc)
+told_none (Some k) n false t e = sym (ne_eqb n 32 (λ z. omega arith))

@@ -1,5 +1,5 @@
 -- Tables of 32 slots where they lie in octets: what the functions of this crate say of them.
-use Rattle.std.specs.Prelude.{◌≡◌, ℕ, ◌+◌, ◌*◌, ◌-◌, ◌<◌, drop, replicate}
+use Rattle.std.specs.Prelude.{◌≡◌, ℕ, ◌+◌, ◌*◌, ◌-◌, ◌<◌, ◌≤◌, Option, MatchOption, drop, replicate}
 use mathlib.Core.List.{List, ◌∷◌, ◌++◌, foldr}
 use Rattle.std.proofs.Math.Option.{none, some}
 use Rattle.std.specs.Int.Bits.{bit_or}
@@ -26,6 +26,15 @@ InUse s at size k = drop k (table_at s at size) ≡ some (part s (at + (4 + size
 pub record NextUsed (s : Octets) (at size k r : ℕ) : Type 0 where
   pub passed : drop k (table_at s at size) ≡ replicate (r - k) none ++ drop r (table_at s at size)
   pub used : r < 32 → InUse s at size r
+
+-- what a walk that has come to slot k is told: the next slot in use, or none, where `NextUsed` says 32
+abbrev pub IsNext : Octets → ℕ → ℕ → Option ℕ → Type 0
+IsNext s at k r =
+    MatchOption r ((size : ℕ) → NextUsed s at size k 32) (λ slot. ((size : ℕ) → NextUsed s at size k slot) × (k ≤ slot) × (slot < 32))
+
+-- a slot that the model tells by its number, or none, where its number is 32
+abbrev pub IsSlot : Option ℕ → ℕ → Type 0
+IsSlot r n = MatchOption r (n ≡ 32) (λ slot. (slot ≡ n) × (slot < 32))
 
 -- the octet at a place of every record, joined by or
 abbrev pub joined_by_or : ℕ → List Octets → ℕ

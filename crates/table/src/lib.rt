@@ -7,7 +7,7 @@ ghost use Rattle.model.specs.Tables.{entries, begins, freed, loaded, chop, free}
 ghost use Rattle.model.specs.Layout.{region};
 ghost use Rattle.model.specs.LookUp.{look_up};
 ghost use Rattle.octets.specs.Parts.{write_at};
-ghost use Rattle.table.specs.Slots.{Canonical, NextUsed, first_at, joined_by_or, table_at};
+ghost use Rattle.table.specs.Slots.{Canonical, IsNext, IsSlot, first_at, joined_by_or, table_at};
 
 use model::LookUp;
 
@@ -16,35 +16,36 @@ pub fn used(s: &[u8], at: usize) -> u32
     requires { at + 4 ≤ length s.now }
     ensures { ((size : ℕ) → result ≡ length (entries (table_at s.now at size))) × (result ≤ 32) }
 {
-    u32::count_ones(octets::u32_at(s, at) as u32)
+    (octets::u32_at(s, at) as u32).count_ones()
 }
 
-// The lowest free slot: the trailing zeros of the word's complement; 32 where all slots are full.
-pub fn free_slot(s: &[u8], at: usize) -> usize
+// The lowest free slot, if there is one: the trailing zeros of the word's complement.
+pub fn free_slot(s: &[u8], at: usize) -> Option<usize>
     requires { at + 4 ≤ length s.now }
-    ensures { ((size : ℕ) → result ≡ free (table_at s.now at size)) × (result ≤ 32) }
+    ensures { (size : ℕ) → IsSlot result (free (table_at s.now at size)) }
 {
     let w = octets::u32_at(s, at) as u32;
     if w == 0xFFFFFFFF {
-        return 32;
+        return None;
     }
-    u32::trailing_zeros(!w) as usize
+    Some((!w).trailing_zeros() as usize)
 }
 
-// The first slot from k on that is in use; 32 if there is none. Records are walked in slot order by it.
-pub fn next_used(s: &[u8], at: usize, k: usize) -> usize
+// The first slot from k on that is in use, if there is one. Records are walked in slot order by it.
+pub fn next_used(s: &[u8], at: usize, k: usize) -> Option<usize>
     requires { (at + 4 ≤ length s.now) × (k ≤ 32) }
-    ensures { ((size : ℕ) → NextUsed s.now at size k result) × (k ≤ result) × (result ≤ 32) }
+    ensures { IsNext s.now at k result }
 {
     let w = octets::u32_at(s, at) >> k;
     if w == 0 {
-        return 32;
+        return None;
     }
-    k + (u64::trailing_zeros(w) as usize)
+    Some(k + (w.trailing_zeros() as usize))
 }
 
 // Where the first record that begins with the key stands, and how many slots are walked to know it. With each used slot that is looked at, from the lowest
-// up, its one is taken away from a copy of the occupancy word; the walk ends where none is left.
+// up, its one is taken away from a copy of the occupancy word; the walk ends where none is left. Where no record is found the slot stays the number 32, not an
+// option: `hub_look_up` hands it to C.
 pub fn look_up(s: &[u8], at: usize, size: usize, key: &[u8]) -> LookUp
     requires { (at + (4 + size * 32) ≤ length s.now) × (length key.now ≤ size) }
     ensures { result ≡ look_up (begins (length key.now) key.now) (table_at s.now at size) }
@@ -52,29 +53,26 @@ pub fn look_up(s: &[u8], at: usize, size: usize, key: &[u8]) -> LookUp
     let mut left = octets::u32_at(s, at);
     let mut walked: usize = 0;
     while 0 < left {
-        let slot = u64::trailing_zeros(left) as usize;
+        let slot = left.trailing_zeros() as usize;
         if octets::same_key(key, 0, s, at + (4 + size * slot), key.len()) {
             return LookUp {
-                slot: slot,
+                slot,
                 walked: slot + 1,
             };
         }
-        left = left & (left - 1);
+        left &= left - 1;
         walked = slot + 1;
     }
-    LookUp {
-        slot: 32,
-        walked: walked,
-    }
+    LookUp { slot: 32, walked }
 }
 
-// The slot that the look-up of the first n octets of the key tells: that of the first record which has them, 32 if there is none.
-pub fn find(s: &[u8], at: usize, size: usize, key: &[u8], n: usize) -> usize
+// The slot that the look-up of the first n octets of the key tells: that of the first record which has them, if there is one.
+pub fn find(s: &[u8], at: usize, size: usize, key: &[u8], n: usize) -> Option<usize>
     requires { (at + (4 + size * 32) ≤ length s.now) × (n ≤ size) × (n ≤ length key.now) }
-    ensures { (result ≡ first_at (begins n key.now) (table_at s.now at size)) × (result ≤ 32) }
+    ensures { IsSlot result (first_at (begins n key.now) (table_at s.now at size)) }
 {
-    let u = look_up(s, at, size, &key[..n]);
-    u.slot
+    let slot = look_up(s, at, size, &key[..n]).slot;
+    if slot < 32 { Some(slot) } else { None }
 }
 
 // The octet at `place` of every record, joined by or.
@@ -83,10 +81,10 @@ pub fn or_octets(s: &[u8], at: usize, size: usize, place: usize) -> u8
     ensures { result ≡ joined_by_or place (entries (table_at s.now at size)) }
 {
     let mut hints: u8 = 0;
-    let mut slot = next_used(s, at, 0);
-    while slot < 32 {
-        hints = hints | s[at + (4 + size * slot) + place];
-        slot = next_used(s, at, slot + 1);
+    let mut from = 0;
+    while let Some(slot) = next_used(s, at, from) {
+        hints |= s[at + (4 + size * slot) + place];
+        from = slot + 1;
     }
     hints
 }
@@ -99,7 +97,7 @@ pub fn store(s: &mut [u8], at: usize, size: usize, k: usize, rec: &[u8])
     let w = octets::u32_at(s, at) as u32;
     let bit: u32 = 1 << k;
     octets::copy_into(s, at + (4 + size * k), rec);
-    octets::put32(s, at, (w | bit) as u64);
+    octets::put32(s, at, u64::from(w | bit));
 }
 
 // Frees slot k: its octets are zero again, and it is marked as free.
@@ -110,7 +108,7 @@ fn release(s: &mut [u8], at: usize, size: usize, k: usize)
     let w = octets::u32_at(s, at) as u32;
     let mask: u32 = !(1 << k);
     octets::zero_fill(s, at + (4 + size * k), size);
-    octets::put32(s, at, (w & mask) as u64);
+    octets::put32(s, at, u64::from(w & mask));
 }
 
 // Frees every slot whose record has the first n octets of the key: one look-up for each, and one that finds none.
@@ -118,12 +116,8 @@ pub fn release_matching(s: &mut [u8], at: usize, size: usize, key: &[u8], n: usi
     requires { (at + (4 + size * 32) ≤ length s.old) × Canonical s.old at size × (n ≤ size) × (n ≤ length key.now) }
     ensures { s.new ≡ write_at s.old at (region size (freed (begins n key.now) (table_at s.old at size))) }
 {
-    loop {
-        let hit = find(s, at, size, key, n);
-        if hit == 32 {
-            return;
-        }
-        release(s, at, size, hit);
+    while let Some(slot) = find(s, at, size, key, n) {
+        release(s, at, size, slot);
     }
 }
 
@@ -143,6 +137,6 @@ pub fn load(s: &mut [u8], at: usize, size: usize, src: &[u8], from: usize, n: us
 {
     let end: u64 = 1 << n;
     octets::put32(s, at, end - 1);
-    octets::copy_part(s, at + 4, src, from, size * n);
+    octets::copy_into(s, at + 4, &src[from..from + size * n]);
     octets::zero_fill(s, at + (4 + size * n), size * (32 - n));
 }

@@ -6,7 +6,7 @@ use Prim.Native.Nat.{ℕ, zero, suc, ◌-◌, ◌*◌, ◌/◌, ◌≤◌, ◌<�
 use native.Mathlib.Nat.{div-mul-le_self, lt-div-mul-add, mul-le-mul_right, eq-or-lt_of_le}
 use native.Mathlib.Omega.{arith}
 use mathlib.Core.List.{List}
-use lib.ListN.{length, get_or, get_or-eq_default}
+use lib.ListN.{length, get_or-eq_default}
 use lib.Dec.{ltb}
 use borrow.Author.Tests.{ltb-true, ltb-false}
 use Rattle.model.specs.declared.Schedule.{Schedule}
@@ -18,32 +18,6 @@ use Rattle.turns.proofs.Seconds.{state, begun, begun_here}
 use Rattle.turns.proofs.Rounds.{value_falls, rounds}
 use Rattle.turns.proofs.Sound.{facts, here}
 use Rattle.turns.proofs.Turns.{pending}
-
--- One instance --------------------------------------------------------------------------------------------------------------------------------
-
--- with no timeout it stays in every round
-pub capped_none : (d t m : ℕ) → t ≡ 0 → Capped d t m m
-capped_none d t m e = record { most = omega arith; stays = inl e; tight = inl refl }
-
--- with one it has a duration
-pub divisor : (d t : ℕ) → (d ≡ 0 → t ≡ 0) → (t ≡ 0 → ⊥) → 0 < d
-divisor zero t f n = absurd (n (f refl))
-divisor (suc d) t f n = omega arith
-
--- it goes before the most rounds are over
-pub capped_less : (d t m : ℕ) → (d ≡ 0 → t ≡ 0) → (t ≡ 0 → ⊥) → (t - 1) / d < m → Capped d t m ((t - 1) / d)
-capped_less d t m f n h =
-    let p : 0 < d = divisor d t f n in
-    let a = div-mul-le_self (t - 1) d in
-    let b = lt-div-mul-add {a = t - 1} p in
-    record { most = omega arith; stays = inr (omega arith); tight = inr (omega arith, omega arith) }
-
--- it stays in all of them
-pub capped_most : (d t m : ℕ) → (t ≡ 0 → ⊥) → m ≤ (t - 1) / d → Capped d t m m
-capped_most d t m n h =
-    let a = div-mul-le_self (t - 1) d in
-    let b = mul-le-mul_right d h in
-    record { most = omega arith; stays = inr (omega arith); tight = inl refl }
 
 -- All five: the least of five most ------------------------------------------------------------------------------------------------------------
 
@@ -64,33 +38,32 @@ stops : (d t r : ℕ) → (0 < t) × (t ≤ suc r * d) → Stays (suc r * d) t �
 stops d t r g s = ⊎_elim (λ z. omega arith) (λ l. omega arith) s
 
 -- the instances up to i are looked at
-record Upto (i : ℕ) (ds ts : List ℕ) (m r : ℕ) : Type 0 where
+pub record Upto (i : ℕ) (ds ts : List ℕ) (m r : ℕ) : Type 0 where
   most : r ≤ m
   stays : (k : ℕ) → k ≤ i → Stays (r * value_of ds k) (value_of ts k)
   tight : (r ≡ m) ⊎ (Rounds (suc r) ds ts → ⊥)
 
 -- none is looked at
-upto_none : (ds ts : List ℕ) (m : ℕ) → Upto 0 ds ts m m
+pub upto_none : (ds ts : List ℕ) (m : ℕ) → Upto 0 ds ts m m
 unfolding value_of
 upto_none ds ts m = record { most = omega arith; stays = λ k h. (let e : k ≡ 0 = omega arith in rw e (inl refl)); tight = inl refl }
 
 -- one more
-upto_more : (i : ℕ) (ds ts : List ℕ) (m q r : ℕ) → Upto i ds ts m q → Capped (value_of ds (suc i)) (value_of ts (suc i)) q r → Upto (suc i) ds ts m r
+pub upto_more : (i : ℕ) (ds ts : List ℕ) (m q r : ℕ) → Upto i ds ts m q → Capped (value_of ds (suc i)) (value_of ts (suc i)) q r → Upto (suc i) ds ts m r
 upto_more i ds ts m q r u c = record {
   most = let a = u.most in let b = c.most in omega arith;
   stays = λ k h. ⊎_elim (λ e. rw e c.stays) (λ n. stays_fewer r q (value_of ds k) (value_of ts k) c.most (u.stays k (omega arith))) (eq-or-lt_of_le h);
   tight = ⊎_elim (λ e. rw e u.tight) (λ g. inr (λ s. stops (value_of ds (suc i)) (value_of ts (suc i)) r g (s (suc i)))) c.tight;
 }
 
--- all five
-pub most_of : (ds ts : List ℕ) (m a b c d r : ℕ) → length ts ≡ 5 → Capped (get_or ds 0 0) (get_or ts 0 0) m a → Capped (get_or ds 1 0) (get_or ts 1 0) a b
-    → Capped (get_or ds 2 0) (get_or ts 2 0) b c → Capped (get_or ds 3 0) (get_or ts 3 0) c d → Capped (get_or ds 4 0) (get_or ts 4 0) d r → Most ds ts m r
+-- all five: there are no others
+pub most_of : (i : ℕ) (ds ts : List ℕ) (m r : ℕ) → 5 ≤ i → length ts ≡ 5 → Upto i ds ts m r → Most ds ts m r
 unfolding value_of
-most_of ds ts m a b c d r l A B C D R =
-    let u1 : Upto 1 ds ts m a = upto_more 0 ds ts m m a (upto_none ds ts m) A in
-    let u3 : Upto 3 ds ts m c = upto_more 2 ds ts m b c (upto_more 1 ds ts m a b u1 B) C in
-    let u : Upto 5 ds ts m r = upto_more 4 ds ts m d r (upto_more 3 ds ts m c d u3 D) R in
-    record { most = u.most; stays = λ k. ⊎_elim (λ h. u.stays k (omega arith)) (λ h. inl (beyond k h)) (less_or k 6); tight = u.tight }
+most_of i ds ts m r f l u = record {
+  most = u.most;
+  stays = λ k. ⊎_elim (λ h. u.stays k (omega arith)) (λ h. inl (beyond k h)) (less_or k 6);
+  tight = u.tight;
+}
   where
     beyond : (k : ℕ) → 6 ≤ k → value_of ts k ≡ 0
     beyond zero h = refl

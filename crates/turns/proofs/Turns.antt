@@ -98,10 +98,6 @@ stays_turn t l n g h = ⊎_elim (λ z. inl z) (λ f. ⊎_elim (λ q. inr q) (λ 
 stays_part : (t l n : ℕ) → Goes t l n false → n < l → Stays n t
 stays_part t l n g h = ⊎_elim (λ z. inl z) (λ f. ⊎_elim (λ q. inr (omega arith)) (λ q. inr q) f) g
 
--- its timeout is among the seconds
-pub goes_within : (t l n : ℕ) (g : Bool) → g ≡ true → Goes t l n g → t ≤ n
-goes_within t l n g e h = let k : Goes t l n true = rw e at h in omega arith
-
 -- the same as the code has it: x is its timeout, g the answer of `goes`, b the schedule before the turn passes on
 module _ (s a b : Schedule) (n x : ℕ) (g : Bool) (sound : Sound s) (airs : 0 < s.on_air) (time : x ≡ value_of s.timeouts s.on_air)
     (told : Goes x s.left n g) where

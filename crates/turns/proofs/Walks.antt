@@ -9,7 +9,7 @@ use native.Mathlib.Omega.{arith}
 use mathlib.Core.List.{List, ◌∷◌}
 use lib.ListN.{take}
 use Rattle.model.specs.declared.Schedule.{Schedule}
-use Rattle.model.specs.Advertising.{duration_of, following, passed_on, seconds, timeout_of, turn_to, value_of, with_value}
+use Rattle.model.specs.Advertising.{duration_of, following, passed_on, timeout_of, turn_to, value_of, with_value}
 use Rattle.model.specs.Fairness.{sum_of}
 use Rattle.turns.specs.declared.Pending.{Pending}
 use Rattle.turns.specs.Ring.{next}

@@ -24,44 +24,39 @@ struct Pending {
 }
 
 // What is written for instance k, 0 for none.
+#[tactic(auto, using(crate::proofs::Values::value_place, crate::proofs::Values::value_none))]
 fn value_of(l: [u16; 5], k: u8) -> u16
     requires { k ≤ 5 }
     ensures { result ≡ value_of l k }
 {
-    if k == 0 {
-        return 0;
-    }
-    l[k as usize - 1]
+    if k == 0 { 0 } else { l[usize::from(k) - 1] }
 }
 
 // Another value for instance k.
-fn with_value(l: [u16; 5], k: u8, x: u16) -> [u16; 5]
+#[tactic(auto, using(crate::proofs::Values::with_place))]
+fn with_value(mut l: [u16; 5], k: u8, x: u16) -> [u16; 5]
     requires { (1 ≤ k) × (k ≤ 5) }
     ensures { result ≡ with_value l k x }
 {
-    let mut m = l;
-    m[k as usize - 1] = x;
-    m
+    l[usize::from(k) - 1] = x;
+    l
 }
 
 // Another duration and timeout for instance k; the turn is left alone.
+#[tactic(auto, unfolding(model::specs::Advertising::with_instance))]
 fn with_instance(s: Schedule, k: u8, d: u16, t: u16) -> Schedule
     requires { (1 ≤ k) × (k ≤ 5) }
     ensures { result ≡ with_instance k d t s }
 {
-    let ds = s.durations;
-    let ts = s.timeouts;
-    let durations = with_value(ds, k, d);
-    let timeouts = with_value(ts, k, t);
     Schedule {
-        durations,
-        timeouts,
-        on_air: s.on_air,
-        left: s.left,
+        durations: with_value(s.durations, k, d),
+        timeouts: with_value(s.timeouts, k, t),
+        ..s
     }
 }
 
 // The place behind p, in a ring of five.
+#[tactic(auto, unfolding(crate::specs::Ring::next))]
 fn next(p: usize) -> usize
     requires { p < 5 }
     ensures { (result ≡ next p) × (result < 5) }
@@ -70,41 +65,41 @@ fn next(p: usize) -> usize
 }
 
 // The place of the instance that follows k; instance j stands at place j - 1.
+#[tactic(auto, using(crate::proofs::Ring::following_last))]
 fn place_behind(k: u8) -> usize
     requires { k ≤ 5 }
     ensures { (result < 5) × (following result ≡ following k) }
 {
-    if k == 5 { 0 } else { k as usize }
+    if k == 5 { 0 } else { usize::from(k) }
 }
 
-// The first instance that is there, of the five from the one behind k on; 0 if none is.
+// The first instance that is there, of the five from the one behind k on; 0 if none is, a number and no option, as a schedule keeps the one on air (the model's
+// `first_present`, and the octets of the state).
 fn first_present(s: Schedule, k: u8) -> u8
     requires { k ≤ 5 }
     ensures { (result ≡ first_present s (following k)) × (result ≤ 5) }
 {
-    let durations = s.durations;
     let mut p = place_behind(k);
-    let mut places: usize = 5;
-    while 0 < places {
-        if durations[p] != 0 {
+    for _place in 0..5usize {
+        if s.durations[p] != 0 {
             return p as u8 + 1;
         }
         p = next(p);
-        places = places - 1;
     }
     0
 }
 
 // Whether instance k is there.
+#[tactic(auto, unfolding(model::specs::Advertising::present, model::specs::Advertising::duration_of))]
 pub fn is_present(s: Schedule, k: u8) -> bool
     requires { k ≤ 5 }
     ensures { result ≡ present s k }
 {
-    let durations = s.durations;
-    value_of(durations, k) != 0
+    value_of(s.durations, k) != 0
 }
 
 // No instance is there, and none is on air.
+#[tactic(auto, unfolding(model::specs::Advertising::no_schedule))]
 pub fn no_schedule() -> Schedule
     ensures { result ≡ no_schedule }
 {
@@ -117,23 +112,21 @@ pub fn no_schedule() -> Schedule
 }
 
 // The turn passes on from k: to the next instance above k that is there, else to the lowest. From 0 it is the lowest.
+#[tactic(auto, unfolding(model::specs::Advertising::passed_on, model::specs::Advertising::turn_to, model::specs::Advertising::duration_of))]
 pub fn pass_on(s: Schedule, k: u8) -> Schedule
     requires { k ≤ 5 }
     ensures { result ≡ passed_on k s }
 {
-    let durations = s.durations;
-    let timeouts = s.timeouts;
-    let first = first_present(s, k);
-    let left = value_of(durations, first);
+    let on_air = first_present(s, k);
     Schedule {
-        durations,
-        timeouts,
-        on_air: first,
-        left,
+        on_air,
+        left: value_of(s.durations, on_air),
+        ..s
     }
 }
 
 // The duration that is kept for a duration of a packet: 0 stands for two seconds.
+#[tactic(auto, unfolding(model::specs::Advertising::whole_turn))]
 pub fn whole_turn(d: u16) -> u16
     ensures { result ≡ whole_turn d }
 {
@@ -141,25 +134,20 @@ pub fn whole_turn(d: u16) -> u16
 }
 
 // Instance k is added or changed. If power is on, the turn passes on where none is on air or k is.
+#[tactic(auto, unfolding(model::specs::Advertising::added_instance))]
 pub fn add(s: Schedule, powered: bool, k: u8, d: u16, t: u16) -> Schedule
     requires { (1 ≤ k) × (k ≤ 5) × (s.on_air ≤ 5) }
     ensures { result ≡ added_instance powered k d t s }
 {
-    let on_air = s.on_air;
     let changed = with_instance(s, k, d, t);
-    if !powered {
-        return changed;
-    }
-    if on_air == 0 {
-        return pass_on(changed, on_air);
-    }
-    if on_air == k {
-        return pass_on(changed, on_air);
+    if powered && (s.on_air == 0 || s.on_air == k) {
+        return pass_on(changed, s.on_air);
     }
     changed
 }
 
 // Instance k is removed, with 0 all are. If it is on air, the turn passes on.
+#[tactic(auto, unfolding(model::specs::Advertising::removed_instance, model::specs::Advertising::without))]
 pub fn remove(s: Schedule, k: u8) -> Schedule
     requires { k ≤ 5 }
     ensures { result ≡ removed_instance k s }
@@ -167,15 +155,16 @@ pub fn remove(s: Schedule, k: u8) -> Schedule
     if k == 0 {
         return no_schedule();
     }
-    let on_air = s.on_air;
     let rest = with_instance(s, k, 0, 0);
-    if k == on_air {
-        return pass_on(rest, k);
+    if k == s.on_air {
+        pass_on(rest, k)
+    } else {
+        rest
     }
-    rest
 }
 
 // The duration d of an instance with timeout t that power off leaves there; 0 where it goes.
+#[tactic(auto, unfolding(model::specs::Advertising::lasting))]
 fn lasting(d: u16, t: u16) -> u16
     ensures { result ∷ [] ≡ lasting (d ∷ []) (t ∷ []) }
 {
@@ -186,15 +175,10 @@ fn lasting(d: u16, t: u16) -> u16
 fn power_off(s: Schedule) -> Schedule
     ensures { result ≡ powered_off s }
 {
-    let d = s.durations;
-    let t = s.timeouts;
-    let durations = [
-        lasting(d[0], t[0]),
-        lasting(d[1], t[1]),
-        lasting(d[2], t[2]),
-        lasting(d[3], t[3]),
-        lasting(d[4], t[4]),
-    ];
+    let mut durations = s.durations;
+    for p in 0..5 {
+        durations[p] = lasting(s.durations[p], s.timeouts[p]);
+    }
     Schedule {
         durations,
         timeouts: [0; 5],
@@ -204,56 +188,34 @@ fn power_off(s: Schedule) -> Schedule
 }
 
 // Power as it is now and as it was before: on while on changes nothing, and power on begins with the lowest instance.
+#[tactic(auto, unfolding(model::specs::Advertising::repowered))]
 pub fn repower(s: Schedule, now: bool, before: bool) -> Schedule
     ensures { result ≡ repowered now before s }
 {
     if !now {
         return power_off(s);
     }
-    if before {
-        return s;
-    }
-    pass_on(s, 0)
+    if before { s } else { pass_on(s, 0) }
 }
 
 // Whether an instance with the timeout t goes within the left seconds of its turn, and within n seconds.
 fn goes(t: u16, left: u16, n: u32) -> bool
     ensures { Goes t left n result }
 {
-    if t == 0 {
-        return false;
-    }
-    if left < t {
-        return false;
-    }
-    if n < t as u32 {
-        return false;
-    }
-    true
-}
-
-// A timeout after n seconds on air.
-fn fallen(t: u16, n: u16) -> u16
-    ensures { result ≡ t - n }
-{
-    if t < n { 0 } else { t - n }
+    t != 0 && t <= left && u32::from(t) <= n
 }
 
 // The schedule n seconds later, within the turn and with the instance on air still there.
+#[tactic(auto, unfolding(crate::specs::Walk::aired, model::specs::Advertising::timeout_of))]
 fn air(s: Schedule, n: u16) -> Schedule
     requires { (1 ≤ s.on_air) × (s.on_air ≤ 5) × (n ≤ s.left) }
     ensures { result ≡ aired n s }
 {
-    let on_air = s.on_air;
-    let durations = s.durations;
-    let ts = s.timeouts;
-    let t = value_of(ts, on_air);
-    let timeouts = with_value(ts, on_air, fallen(t, n));
+    let t = value_of(s.timeouts, s.on_air);
     Schedule {
-        durations,
-        timeouts,
-        on_air: on_air,
+        timeouts: with_value(s.timeouts, s.on_air, t.saturating_sub(n)),
         left: s.left - n,
+        ..s
     }
 }
 
@@ -264,28 +226,22 @@ fn turn(w: Pending) -> Pending
 {
     let s = w.schedule;
     let n = w.seconds;
-    let left = s.left;
-    let on_air = s.on_air;
-    let timeouts = s.timeouts;
-    let t = value_of(timeouts, on_air);
-    if goes(t, left, n) {
-        let schedule = pass_on(with_instance(s, on_air, 0, 0), on_air);
+    let t = value_of(s.timeouts, s.on_air);
+    if goes(t, s.left, n) {
         return Pending {
-            schedule,
-            seconds: n - t as u32,
+            schedule: pass_on(with_instance(s, s.on_air, 0, 0), s.on_air),
+            seconds: n - u32::from(t),
         };
     }
-    if n < left as u32 {
-        let schedule = air(s, n as u16);
+    if n < u32::from(s.left) {
         return Pending {
-            schedule,
+            schedule: air(s, n as u16),
             seconds: 0,
         };
     }
-    let schedule = pass_on(air(s, left), on_air);
     Pending {
-        schedule,
-        seconds: n - left as u32,
+        schedule: pass_on(air(s, s.left), s.on_air),
+        seconds: n - u32::from(s.left),
     }
 }
 
@@ -294,10 +250,11 @@ fn place(w: Pending, p: usize) -> Pending
     requires { Sound w.schedule × (p < 5) }
     ensures { Placed w p result }
 {
-    if w.schedule.on_air as usize == p + 1 {
-        return turn(w);
+    if usize::from(w.schedule.on_air) == p + 1 {
+        turn(w)
+    } else {
+        w
     }
-    w
 }
 
 // Skips as many whole rounds as no instance goes in, where a turn begins.
@@ -306,21 +263,12 @@ fn skip(w: Pending) -> Pending
     ensures { Skipped w result }
 {
     let s = w.schedule;
-    let n = w.seconds;
-    let durations = s.durations;
-    let timeouts = s.timeouts;
-    let whole = skips::whole(durations);
-    let r = skips::rounds(durations, timeouts, n / whole);
-    let fallen = skips::falls(durations, timeouts, r);
-    let schedule = Schedule {
-        durations,
-        timeouts: fallen,
-        on_air: s.on_air,
-        left: s.left,
-    };
+    let whole = skips::whole(s.durations);
+    let r = skips::rounds(s.durations, s.timeouts, w.seconds / whole);
+    let timeouts = skips::falls(s.durations, s.timeouts, r);
     Pending {
-        schedule,
-        seconds: n - r * whole,
+        schedule: Schedule { timeouts, ..s },
+        seconds: w.seconds - r * whole,
     }
 }
 
@@ -331,12 +279,10 @@ fn walk(w: Pending) -> Pending
     ensures { Walked w result }
 {
     let mut v = w;
-    let mut p = w.schedule.on_air as usize - 1;
-    let mut c: usize = 5;
-    while 0 < c {
+    let mut p = usize::from(w.schedule.on_air) - 1;
+    for _ in 0..5usize {
         v = place(v, p);
         p = next(p);
-        c = c - 1;
     }
     v
 }
@@ -346,12 +292,8 @@ fn round(w: Pending) -> Pending
     requires { Sound w.schedule × Fresh w.schedule }
     ensures { Walked w result }
 {
-    let schedule = w.schedule;
-    if schedule.on_air == 0 {
-        return Pending {
-            schedule,
-            seconds: 0,
-        };
+    if w.schedule.on_air == 0 {
+        return Pending { seconds: 0, ..w };
     }
     walk(skip(w))
 }
@@ -368,13 +310,11 @@ pub fn advance(s: Schedule, n: u32) -> Schedule
         schedule: s,
         seconds: n,
     });
-    let mut rounds: usize = 6;
-    while 0 < rounds {
+    for _ in 0..6usize {
         if w.seconds == 0 {
             return w.schedule;
         }
         w = round(w);
-        rounds = rounds - 1;
     }
     w.schedule
 }

@@ -7,7 +7,6 @@ use lib.Dec.{leb, ltb}
 use Rattle.model.specs.Octets.{Octets}
 use Rattle.model.specs.State.{Controller}
 use Rattle.model.specs.declared.RadioSettings.{RadioSettings}
-use Rattle.model.specs.declared.Place.{Place}
 use Rattle.model.specs.declared.Place.TheVariants.{Nowhere, AtOctet, InRecord, Records}
 use Rattle.model.specs.Reasons.{Check}
 use Rattle.model.specs.Tables.{TableRule, blocked_rule, device_rule, identity_key_rule, le_address_checks, link_key_rule, long_term_key_rule, uuid_rule}

@@ -8,6 +8,7 @@ use mathlib.Core.List.{List, [], ◌∷◌, ◌++◌}
 use lib.ListN.{length, length-append, take}
 use lib.Dec.{eqb, ltb, lit≤}
 use lib.Seq.{take-append_seam}
+use Rattle.std.specs.Prelude.{Ok, Err}
 use Rattle.model.specs.Statuses.{busy}
 use Rattle.model.specs.Reasons.{status_of}
 use Rattle.model.specs.declared.Place.{Place}
@@ -22,8 +23,8 @@ use Rattle.model.specs.declared.Reason.TheVariants.{BredrNotSupported, LeNotSupp
 use Rattle.model.specs.declared.Reason.TheVariants.{NotConnectable, BredrOff, LowEnergyNeeded, PoweredForBredrOff, StaticAddressForBredr}
 use Rattle.model.specs.declared.Reason.TheVariants.{PoweredForStaticAddress, LowEnergyOff, AdvertisingTimeoutUnpowered}
 use Rattle.model.specs.declared.Reason.TheVariants.{NoFreeSlot, UuidAbsent, NoKeyOfDevice, AlreadyBlocked, NotBlocked, DeviceAbsent, InstanceAbsent}
-use Rattle.why.specs.declared.Finding.{Finding}
-use Rattle.why.specs.declared.Finding.TheVariants.{Taken, Busy, Wrong}
+use Rattle.why.specs.declared.Objection.TheVariants.{Busy, Wrong}
+use Rattle.why.specs.Findings.{Finding}
 use Rattle.why.specs.Spelling.{spelled, decimal, digits}
 use Rattle.why.specs.Wording.{status_names, named, status_name, condition, place_words, text_of}
 
@@ -132,15 +133,15 @@ condition_short InstanceAbsent = lit≤ tt
 -- the text of every finding fits the shortest buffer that is taken
 pub text_short : (f : Finding) → length (text_of f) ≤ 256
 unfolding text_of spelled
-text_short Taken = lit≤ tt
-text_short Busy = let a = name_short busy in simp length-append (omega arith)
-text_short (Wrong r p) =
+text_short (Ok _) = lit≤ tt
+text_short (Err Busy) = let a = name_short busy in simp length-append (omega arith)
+text_short (Err (Wrong r p)) =
     let a = name_short (status_of r) in
     let b = condition_short r in
     let c = place_short p in
     simp length-append (omega arith)
 
 -- the text of what is wrong begins with the name of its status
-pub names_status : (r : Reason) (p : Place) → take (length (spelled (status_name (status_of r)))) (text_of (Wrong r p)) ≡ spelled (status_name (status_of r))
+pub names_status : (r : Reason) (p : Place) → take (length (spelled (status_name (status_of r)))) (text_of (Err (Wrong r p))) ≡ spelled (status_name (status_of r))
 unfolding text_of
 names_status r p = take-append_seam (spelled (status_name (status_of r))) _

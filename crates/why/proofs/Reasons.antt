@@ -2,26 +2,24 @@
 use Prim.Native.Nat.{ℕ}
 use mathlib.Core.Path.{◌≡◌, refl}
 use mathlib.Core.Bool.{Bool, true, false, not}
-use mathlib.Core.List.{List, [], ◌∷◌}
 use mathlib.Core.Option.{Option, none, some}
 use lib.ListN.{length}
 use lib.Dec.{eqb, ltb}
+use Rattle.std.specs.Prelude.{Ok, Err}
 use Rattle.model.specs.Lengths as Lengths
 use Rattle.model.specs.Octets.{Octets, command_complete}
-use Rattle.model.specs.State.{Controller, Host, Hub, OpenCommand, PlainHub, controller_at}
+use Rattle.model.specs.State.{Controller, Host, Hub, PlainHub, controller_at}
 use Rattle.model.specs.Reasons.{first_of}
 use Rattle.model.specs.declared.Reason.{Reason}
 use Rattle.model.specs.declared.Reason.TheVariants.{IndexNotNone, LengthWrong}
-use Rattle.model.specs.declared.Place.{Place}
 use Rattle.model.specs.declared.Place.TheVariants.{AtOctet}
 use Rattle.model.specs.Rules.{ImmediateRule, RadioRule, Rule, act, done, general, immediate, radio, unless}
 use Rattle.model.specs.Commands.{rule}
-use Rattle.model.specs.Hub.{Outcome, Verdict, acted, anyway, bad_argument, bad_packet, by_rule, by_status, code_of, finished, general_out, immediate_at, immediate_done}
-use Rattle.model.specs.Hub.{index_of, no_room, outcome, packet_ok, params_of, radio_after_busy, radio_at, radio_before_busy, refusal_form, refused}
+use Rattle.model.specs.Hub.{Outcome, acted, anyway, bad_argument, bad_packet, by_rule, by_status, code_of, finished, general_out, immediate_at, immediate_done}
+use Rattle.model.specs.Hub.{index_of, no_room, outcome, packet_ok, params_of, radio_after_busy, radio_at, radio_before_busy, refused}
 use Rattle.model.specs.Hub.{under_way, verdict}
-use Rattle.why.specs.declared.Finding.{Finding}
-use Rattle.why.specs.declared.Finding.TheVariants.{Busy, Taken, Wrong}
-use Rattle.why.specs.Findings.{and_then, busy_if, checked, first_wrong, in_packet, is_open, why, why_at, why_by, why_general, why_immediate, why_radio}
+use Rattle.why.specs.declared.Objection.TheVariants.{Busy, Wrong}
+use Rattle.why.specs.Findings.{Finding, and_then, busy_if, checked, first_wrong, in_packet, is_open, why, why_at, why_by, why_general, why_immediate, why_radio}
 use Rattle.why.proofs.Says.{Names, fine, named, names_packet}
 
 -- the reason that an outcome refuses for
@@ -34,9 +32,9 @@ reason_in bad_argument = none
 
 -- a finding names the reason that refuses with nothing under way, if it is not Busy
 abbrev pub SameReason : Finding → Outcome → Type 0
-SameReason Taken o = reason_in o ≡ none
-SameReason Busy o = Unit {0}
-SameReason (Wrong r p) o = reason_in o ≡ some r
+SameReason (Ok _) o = reason_in o ≡ none
+SameReason (Err Busy) o = Unit {0}
+SameReason (Err (Wrong r p)) o = reason_in o ≡ some r
 
 module _ (h : Hub) (i code : ℕ) (ps : Octets) where
   -- a command to no controller
@@ -45,7 +43,7 @@ module _ (h : Hub) (i code : ℕ) (ps : Octets) where
   general_reason f = go (eqb i 0xFFFF) (eqb (length ps) 0)
     where
       go : (b c : Bool)
-          → SameReason (and_then (checked (not b) IndexNotNone (AtOctet 2)) (and_then (checked (not c) LengthWrong (AtOctet 4)) Taken))
+          → SameReason (and_then (checked (not b) IndexNotNone (AtOctet 2)) (and_then (checked (not c) LengthWrong (AtOctet 4)) (Ok tt)))
           (elim b [
             | true ↦ elim c [ true ↦ finished (command_complete i code 0 (f h.plain)) h.plain | false ↦ refused (by_status i code) LengthWrong ]
             | false ↦ refused (by_status i code) IndexNotNone

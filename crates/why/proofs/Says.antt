@@ -9,6 +9,7 @@ use mathlib.Core.Logic.{◌↔◌}
 use mathlib.Core.Option.{Option, none, some}
 use lib.ListN.{length}
 use lib.Dec.{eqb, leb, ltb}
+use Rattle.std.specs.Prelude.{Ok, Err}
 use Rattle.model.specs.Lengths as Lengths
 use Rattle.model.specs.Octets.{Octets, octet, le16, event, command_complete, command_status}
 use Rattle.model.specs.State.{Controller, Host, Hub, OpenCommand, PlainHub, controller_at}
@@ -24,25 +25,24 @@ use Rattle.model.specs.Hub.{general_out, immediate_at, immediate_done, index_of,
 use Rattle.model.specs.Hub.{refusal_form, refusal_octets, refused, under_way, verdict}
 use Rattle.model.proofs.Model.Places.{first_moved}
 use Rattle.model.proofs.Model.Tests.{no_way}
-use Rattle.why.specs.declared.Finding.{Finding}
-use Rattle.why.specs.declared.Finding.TheVariants.{Busy, Taken, Wrong}
-use Rattle.why.specs.Findings.{and_then, busy_if, checked, first_wrong, in_packet, is_open, status_in, why, why_at, why_by, why_general, why_immediate}
+use Rattle.why.specs.declared.Objection.TheVariants.{Busy, Wrong}
+use Rattle.why.specs.Findings.{Finding, and_then, busy_if, checked, first_wrong, in_packet, is_open, status_in, why, why_at, why_by, why_general, why_immediate}
 use Rattle.why.specs.Findings.{why_radio}
 
 -- what a finding says of the hub's answer: 0 or 1, or 2 with this status, which both forms of a refusal have at octet 8
 abbrev pub Says : {S : Type 0} → Finding → Result S → Type 0
-Says Taken r = leb r.answer 1 ≡ true
-Says Busy r = (r.answer ≡ 2) × (octet r.octets 8 ≡ status_in Busy)
-Says (Wrong x p) r = (r.answer ≡ 2) × (octet r.octets 8 ≡ status_in (Wrong x p))
+Says (Ok _) r = leb r.answer 1 ≡ true
+Says (Err Busy) r = (r.answer ≡ 2) × (octet r.octets 8 ≡ status_in (Err Busy))
+Says (Err (Wrong x p)) r = (r.answer ≡ 2) × (octet r.octets 8 ≡ status_in (Err (Wrong x p)))
 
 -- 1. A list of checks: its first reason, and the same with its place ---------------------------------------------------------------------------
 
 -- a finding of checks names their first reason
 pub data Names : Option Reason → Finding → Type 0 where
   -- no check fails
-  fine : Names none Taken
+  fine : Names none (Ok tt)
   -- this one does
-  named : (x : Reason) (p : Place) → Names (some x) (Wrong x p)
+  named : (x : Reason) (p : Place) → Names (some x) (Err (Wrong x p))
 
 -- the first check that fails is the one whose reason refuses
 names_first : (cs : List Check) → Names (first_of cs) (first_wrong cs)
@@ -63,18 +63,18 @@ names_packet cs = rw (first_moved (further 6) cs) at (names_first (moved (furthe
 -- 2. What the hub answers --------------------------------------------------------------------------------------------------------------------------
 
 -- a refusal by Command Status
-by_status_lem : (h : Hub) (i code : ℕ) (x : Reason) (p : Place) → Says (Wrong x p) (keep h (refused (by_status i code) x))
+by_status_lem : (h : Hub) (i code : ℕ) (x : Reason) (p : Place) → Says (Err (Wrong x p)) (keep h (refused (by_status i code) x))
 unfolding keep answer_of octets_of refusal_octets by_status command_status event le16 octet status_in
 by_status_lem h i code x p = (refl, refl)
 
 -- a refusal after the length check, by Command Status or Command Complete
-by_form : (h : Hub) (a : Bool) (i code : ℕ) (ps : Octets) (x : Reason) (p : Place) → Says (Wrong x p) (keep h (refused (refusal_form a i code ps) x))
+by_form : (h : Hub) (a : Bool) (i code : ℕ) (ps : Octets) (x : Reason) (p : Place) → Says (Err (Wrong x p)) (keep h (refused (refusal_form a i code ps) x))
 unfolding keep answer_of octets_of refusal_octets refusal_form by_status command_status command_complete event le16 octet status_in
 by_form h true i code ps x p = (refl, refl)
 by_form h false i code ps x p = (refl, refl)
 
 -- a command that is done at once
-by_done : (h : Hub) (o : Octets) (p : PlainHub) → Says Taken (keep h (finished o p))
+by_done : (h : Hub) (o : Octets) (p : PlainHub) → Says (Ok tt) (keep h (finished o p))
 unfolding keep answer_of
 by_done h o p = refl
 
@@ -85,7 +85,7 @@ module _ (h : Hub) (i code : ℕ) (ps : Octets) where
   general_says f = go (eqb i 0xFFFF) (eqb (length ps) 0)
     where
       go : (b c : Bool)
-          → Says (and_then (checked (not b) IndexNotNone (AtOctet 2)) (and_then (checked (not c) LengthWrong (AtOctet 4)) Taken))
+          → Says (and_then (checked (not b) IndexNotNone (AtOctet 2)) (and_then (checked (not c) LengthWrong (AtOctet 4)) (Ok tt)))
           (keep h (elim b [
             | true ↦ elim c [ true ↦ finished (command_complete i code 0 (f h.plain)) h.plain | false ↦ refused (by_status i code) LengthWrong ]
             | false ↦ refused (by_status i code) IndexNotNone
@@ -117,14 +117,14 @@ module _ (h : Hub) (i code : ℕ) (ps : Octets) where
 
   -- a settings command that would be rejected, unless Busy
   rejects_says : (x : Reason) (p : Place) (o : Option OpenCommand)
-      → Says (and_then (busy_if (is_open o)) (Wrong x p)) (busy_or h i code ps (refused (by_status i code) x) false o)
+      → Says (and_then (busy_if (is_open o)) (Err (Wrong x p))) (busy_or h i code ps (refused (by_status i code) x) false o)
   unfolding and_then busy_if is_open busy_or command_status event le16 octet status_in
   rejects_says x p none = by_status_lem h i code x p
   rejects_says x p (some o) = (refl, refl)
 
   -- one that is started or done at once, unless Busy
   acts_says : (out : Octets) (p : PlainHub) (w : Bool) (o : Option OpenCommand)
-      → Says (and_then (busy_if (is_open o)) Taken) (busy_or h i code ps (finished out p) w o)
+      → Says (and_then (busy_if (is_open o)) (Ok tt)) (busy_or h i code ps (finished out p) w o)
   unfolding and_then busy_if is_open busy_or command_status event le16 octet status_in
   acts_says out p true none = refl
   acts_says out p false none = by_done h out p
@@ -178,7 +178,7 @@ unfolding why call verdict
 as_the_hub h packet room e z = rw (e, verdict, z) (rule_says h (index_of packet) (code_of packet) (params_of packet) (rule (code_of packet)))
 
 -- nothing is found exactly where the answer is 0 or 1
-pub taken_says : {S : Type 0} (f : Finding) (r : Result S) → Says f r → (f ≡ Taken) ↔ (leb r.answer 1 ≡ true)
-taken_says Taken r s = (λ _. s, λ _. refl)
-taken_says Busy r s = (λ n. let z : ◌≡◌ {A = ℕ} 0 1 = cc in absurd (omega arith), λ l. no_way (sym (rw s.0 at l)))
-taken_says (Wrong x p) r s = (λ n. let z : ◌≡◌ {A = ℕ} 0 1 = cc in absurd (omega arith), λ l. no_way (sym (rw s.0 at l)))
+pub taken_says : {S : Type 0} (f : Finding) (r : Result S) → Says f r → (f ≡ Ok tt) ↔ (leb r.answer 1 ≡ true)
+taken_says (Ok _) r s = (λ _. s, λ _. refl)
+taken_says (Err Busy) r s = (λ n. let z : ◌≡◌ {A = ℕ} 0 1 = cc in absurd (omega arith), λ l. no_way (sym (rw s.0 at l)))
+taken_says (Err (Wrong x p)) r s = (λ n. let z : ◌≡◌ {A = ℕ} 0 1 = cc in absurd (omega arith), λ l. no_way (sym (rw s.0 at l)))

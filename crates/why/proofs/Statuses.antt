@@ -8,6 +8,7 @@ use mathlib.Core.Logic.{◌↔◌}
 use lib.ListN.{get_or}
 use lib.Dec.{eqb}
 use borrow.Author.Tests.{eq-eqb}
+use Rattle.std.specs.Prelude.{Ok, Err}
 use Rattle.model.specs.Statuses as Statuses
 use Rattle.model.specs.Octets.{Octets}
 use Rattle.model.specs.Reasons.{status_of}
@@ -25,9 +26,8 @@ use Rattle.model.specs.declared.Reason.TheVariants.{LowEnergyOff, AdvertisingTim
 use Rattle.model.specs.declared.Reason.TheVariants.{NoFreeSlot, UuidAbsent, NoKeyOfDevice, AlreadyBlocked, NotBlocked, DeviceAbsent}
 use Rattle.model.specs.declared.Reason.TheVariants.{InstanceAbsent}
 use Rattle.model.proofs.Model.Tests.{and_true, no_way, not-true}
-use Rattle.why.specs.declared.Finding.{Finding}
-use Rattle.why.specs.declared.Finding.TheVariants.{Busy, Taken, Wrong}
-use Rattle.why.specs.Findings.{status_in}
+use Rattle.why.specs.declared.Objection.TheVariants.{Busy, Wrong}
+use Rattle.why.specs.Findings.{Finding, status_in}
 use Rattle.why.specs.Spelling.{open_spelling, spelled}
 use Rattle.why.specs.Wording.{open_wording, status_name, text_of}
 
@@ -111,21 +111,21 @@ otherwise [] ys e q = no_way (sym e)
 otherwise (x ∷ xs) ys e q = let z : x ≡ w = ap (λ (o : Octets). get_or o 0 0) q in no_way (sym (rw z at e))
 
 -- "would be taken" is said of nothing but what would be taken
-pub text_taken : (f : Finding) → (f ≡ Taken) ↔ (text_of f ≡ spelled "would be taken")
+pub text_taken : (f : Finding) → (f ≡ Ok tt) ↔ (text_of f ≡ spelled "would be taken")
 unfolding text_of refusing
-text_taken Taken = (λ _. refl, λ _. refl)
-text_taken Busy = (λ e. let z : ◌≡◌ {A = ℕ} 0 1 = cc in absurd (omega arith), λ e. absurd (otherwise _ _ busy_refuses e))
-text_taken (Wrong r p) = (
+text_taken (Ok _) = (λ _. refl, λ _. refl)
+text_taken (Err Busy) = (λ e. let z : ◌≡◌ {A = ℕ} 0 1 = cc in absurd (omega arith), λ e. absurd (otherwise _ _ busy_refuses e))
+text_taken (Err (Wrong r p)) = (
   λ e. let z : ◌≡◌ {A = ℕ} 0 1 = cc in absurd (omega arith),
   λ e. absurd (otherwise _ _ (and_true (not (eqb (status_of r) 0)) _ (status_refuses r)).1 e),
 )
 
 -- a status of 0 is told of nothing else either
-pub status_taken : (f : Finding) → (f ≡ Taken) ↔ (status_in f ≡ 0)
+pub status_taken : (f : Finding) → (f ≡ Ok tt) ↔ (status_in f ≡ 0)
 unfolding status_in refusing
-status_taken Taken = (λ _. refl, λ _. refl)
-status_taken Busy = (λ e. let z : ◌≡◌ {A = ℕ} 0 1 = cc in absurd (omega arith), λ e. absurd (omega arith))
-status_taken (Wrong r p) = (
+status_taken (Ok _) = (λ _. refl, λ _. refl)
+status_taken (Err Busy) = (λ e. let z : ◌≡◌ {A = ℕ} 0 1 = cc in absurd (omega arith), λ e. absurd (omega arith))
+status_taken (Err (Wrong r p)) = (
   λ e. let z : ◌≡◌ {A = ℕ} 0 1 = cc in absurd (omega arith),
   λ e. no_way (sym (eq-eqb (status_of r) 0 e) ∙ not-true _ (and_true (not (eqb (status_of r) 0)) _ (status_refuses r)).0),
 )

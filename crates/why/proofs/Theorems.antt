@@ -7,6 +7,7 @@ use mathlib.Core.List.{map}
 use mathlib.Core.Logic.{◌↔◌}
 use lib.ListN.{length, take}
 use lib.Dec.{leb, leb→le, lit≤, ltb}
+use Rattle.std.specs.Prelude.{Ok, Err}
 use Rattle.model.specs.Lengths as Lengths
 use Rattle.model.specs.Octets.{Octets, octet}
 use Rattle.model.specs.State.{Hub}
@@ -21,9 +22,8 @@ use Rattle.model.specs.Meanings.{bad_state, hub_command, laid_out, meaning, stat
 use Rattle.model.proofs.Model.Tests.{no_way}
 use Rattle.model.proofs.Model.Pairs.{IsFirst, first_pair_lem, pair_if_repeated}
 use Rattle.model.specs.Tables.{nowhere}
-use Rattle.why.specs.declared.Finding.{Finding}
-use Rattle.why.specs.declared.Finding.TheVariants.{Busy, Taken, Wrong}
-use Rattle.why.specs.Findings.{status_in, why}
+use Rattle.why.specs.declared.Objection.TheVariants.{Busy, Wrong}
+use Rattle.why.specs.Findings.{Finding, status_in, why}
 use Rattle.why.specs.Spelling.{decimal, spelled}
 use Rattle.why.specs.Wording.{status_name, text_of}
 use Rattle.why.specs.Meaning.{Explained, hub_why, text_buffer, told, untold}
@@ -55,9 +55,9 @@ why_answers s packet room = go (why (decode s) packet) (state_ok s) (ltb room te
 -- what a finding says of a hub's answer it says of that laid out
 says_laid : (f : Finding) (r : Result Hub) → Says f r → Says f (laid_out r)
 unfolding laid_out
-says_laid Taken r e = e
-says_laid Busy r e = e
-says_laid (Wrong x p) r e = e
+says_laid (Ok _) r e = e
+says_laid (Err Busy) r e = e
+says_laid (Err (Wrong x p)) r e = e
 
 module _ (s packet : Octets) (room reply : ℕ) (e : (hub_why s packet room).answer ≡ 0) (enough : ltb reply Lengths.reply_buffer ≡ false) where
   -- THE HUB'S OWN: what is told of a packet is what the hub answers, with room to reply. Taken: answer 0 or 1. Else: answer 2, with the status that is told.
@@ -77,9 +77,9 @@ module _ (s packet : Octets) (room reply : ℕ) (e : (hub_why s packet room).ans
   status_is_the_hubs two = ap (λ (x : Explained). x.status) told_is ∙ go (why (decode s) packet) why_is_the_hubs
     where
       go : (f : Finding) → Says f (hub_command s packet reply) → status_in f ≡ octet (hub_command s packet reply).octets 8
-      go Taken q = let z : leb 2 1 ≡ true = rw two at q in no_way (sym z)
-      go Busy q = sym q.1
-      go (Wrong x p) q = sym q.1
+      go (Ok _) q = let z : leb 2 1 ≡ true = rw two at q in no_way (sym z)
+      go (Err Busy) q = sym q.1
+      go (Err (Wrong x p)) q = sym q.1
 
   -- "would be taken" is said exactly where the hub answers 0 or 1.
   pub would_be_taken : ((hub_why s packet room).octets ≡ spelled "would be taken") ↔ (leb (hub_command s packet reply).answer 1 ≡ true)
@@ -122,9 +122,9 @@ unfolding hub_why untold
 refused_where_the_hub s packet room reply e three = refused_as_the_hub s packet room reply e not_zero
   where
     says : (f : Finding) → Says f (hub_command s packet reply) → ⊥
-    says Taken q = low (hub_command s packet reply).answer three q
-    says Busy q = let z : leb 3 2 ≡ true = rw q.0 at three in no_way (sym z)
-    says (Wrong x p) q = let z : leb 3 2 ≡ true = rw q.0 at three in no_way (sym z)
+    says (Ok _) q = low (hub_command s packet reply).answer three q
+    says (Err Busy) q = let z : leb 3 2 ≡ true = rw q.0 at three in no_way (sym z)
+    says (Err (Wrong x p)) q = let z : leb 3 2 ≡ true = rw q.0 at three in no_way (sym z)
 
     not_zero : (hub_why s packet room).answer ≡ 0 → ⊥
     not_zero o = go (state_ok s) (ltb room text_buffer) refl refl
@@ -151,7 +151,7 @@ no_text_longer s packet room = go (state_ok s) (ltb room text_buffer) (packet_ok
     go false b c = lit≤ tt
 
 -- A refusal is told by the name of its status first.
-pub status_first : (r : Reason) (p : Place) → take (length (spelled (status_name (status_of r)))) (text_of (Wrong r p)) ≡ spelled (status_name (status_of r))
+pub status_first : (r : Reason) (p : Place) → take (length (spelled (status_name (status_of r)))) (text_of (Err (Wrong r p))) ≡ spelled (status_name (status_of r))
 status_first = names_status
 
 -- A number of 64 bits in a place is told whole.

@@ -1,10 +1,10 @@
 -- No two conditions are told by the same words, and no two statuses by the same name.
 use mathlib.Core.Path.{◌≡◌, refl}
-use mathlib.Core.Bool.{Bool, true}
+use mathlib.Core.Bool.{true}
 use mathlib.Core.List.{List, [], ◌∷◌, map}
 use Prim.Native.Nat.{ℕ}
 use Prim.Native.String.{String}
-use Rattle.model.specs.Octets.{Octets, open_octets}
+use Rattle.model.specs.Octets.{open_octets}
 use Rattle.model.specs.declared.Reason.{Reason}
 use Rattle.model.specs.declared.Reason.TheVariants.{CodeUnknown, IndexNotNone, ControllerAbsent, LengthWrong, CountAbove32}
 use Rattle.model.specs.declared.Reason.TheVariants.{DebugFlagAbove1, KeyTypeAbove8, KeyTypeAbove4, MasterAbove1, KeySizeNot7To16}

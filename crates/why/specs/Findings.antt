@@ -1,6 +1,6 @@
 -- Why the hub would refuse a packet: the first check that fails, and where (02, E3). The checks with their conditions, reasons and places stand in the model's
 -- rules; here stands their order, from the packet's header on. That the hub answers so is a theorem (proofs/Theorems.antt).
-use Rattle.std.specs.Prelude.{ℕ, Bool, true, false, not, List, [], ◌∷◌, length, eqb}
+use Rattle.std.specs.Prelude.{ℕ, Bool, true, false, not, List, [], ◌∷◌, length, eqb, Result, Ok, Err}
 use Rattle.std.proofs.Math.Option.{Option, none, some}
 use Rattle.model.specs.Statuses as Statuses
 use Rattle.model.specs.Octets.{Octets}
@@ -14,41 +14,38 @@ use Rattle.model.specs.declared.Place.TheVariants.{AtOctet}
 use Rattle.model.specs.Rules.{RadioRule, ImmediateRule, Rule, general, immediate, radio}
 use Rattle.model.specs.Commands.{rule}
 use Rattle.model.specs.Hub.{code_of, index_of, params_of, under_way}
-use Rattle.why.specs.declared.Finding.{Finding}
-use Rattle.why.specs.declared.Finding.TheVariants.{Taken, Busy, Wrong}
+use Rattle.why.specs.declared.Objection.{Objection}
+use Rattle.why.specs.declared.Objection.TheVariants.{Busy, Wrong}
+
+-- what is found of a packet: nothing, so that the hub would take it, or the first objection
+abbrev pub Finding : Type 0
+Finding = Result (Unit {0}) Objection
 
 -- the status that the hub would answer with, 0 if it would take the packet
 unfoldable pub status_in : Finding → ℕ
-status_in Taken = Statuses.success
-status_in Busy = Statuses.busy
-status_in (Wrong r p) = status_of r
-
--- nothing is found
-unfoldable pub is_taken : Finding → Bool
-is_taken Taken = true
-is_taken Busy = false
-is_taken (Wrong r p) = false
+status_in (Ok _) = Statuses.success
+status_in (Err Busy) = Statuses.busy
+status_in (Err (Wrong r p)) = status_of r
 
 -- the first of two findings that says anything
 unfoldable pub and_then : Finding → Finding → Finding
-and_then Taken g = g
-and_then Busy g = Busy
-and_then (Wrong r p) g = Wrong r p
+and_then (Ok _) g = g
+and_then (Err o) g = Err o
 
 -- what one check finds
 unfoldable pub checked : Bool → Reason → Place → Finding
-checked true r p = Wrong r p
-checked false r p = Taken
+checked true r p = Err (Wrong r p)
+checked false r p = Ok tt
 
 -- what checks find, one after the other: the first that fails, with its place
 unfoldable pub first_wrong : List Check → Finding
-first_wrong [] = Taken
+first_wrong [] = Ok tt
 first_wrong (c ∷ cs) = and_then (checked c.fails c.reason c.place) (first_wrong cs)
 
 -- Busy, while a command is under way
 unfoldable pub busy_if : Bool → Finding
-busy_if true = Busy
-busy_if false = Taken
+busy_if true = Err Busy
+busy_if false = Ok tt
 
 -- a command is under way
 unfoldable pub is_open : Option OpenCommand → Bool
@@ -75,12 +72,12 @@ why_radio r x busy ps =
 
 -- a command to a controller: first that it is there
 unfoldable pub why_at : Option Controller → (Controller → Finding) → Finding
-why_at none f = Wrong ControllerAbsent (AtOctet 2)
+why_at none f = Err (Wrong ControllerAbsent (AtOctet 2))
 why_at (some c) f = f c
 
 -- by the rule of the code, if the code is known
 unfoldable pub why_by : Hub → ℕ → Octets → Option Rule → Finding
-why_by h i ps none = Wrong CodeUnknown (AtOctet 0)
+why_by h i ps none = Err (Wrong CodeUnknown (AtOctet 0))
 why_by h i ps (some (general f)) = why_general i ps
 why_by h i ps (some (immediate q)) = why_at (controller_at h.plain i) (λ c. why_immediate q c ps)
 why_by h i ps (some (radio r)) = why_at (controller_at h.plain i) (λ c. why_radio r c.radio (is_open (under_way h i)) ps)
@@ -91,5 +88,5 @@ why h packet = why_by h (index_of packet) (params_of packet) (rule (code_of pack
 
 -- Named on an `unfolding` line, this opens every definition of the module: for examples that are computed.
 unfoldable pub open_findings : Unit {0}
-unfolding status_in is_taken and_then checked first_wrong busy_if is_open in_packet why_general why_immediate why_radio why_at why_by why
+unfolding status_in and_then checked first_wrong busy_if is_open in_packet why_general why_immediate why_radio why_at why_by why
 open_findings = tt

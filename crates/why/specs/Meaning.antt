@@ -7,8 +7,7 @@ use Rattle.model.specs.declared.Answer.TheVariants.{Done, BadPacket, SmallBuffer
 use Rattle.model.specs.Hub.{packet_ok}
 use Rattle.model.specs.Layout.{decode}
 use Rattle.model.specs.Meanings.{state_ok}
-use Rattle.why.specs.declared.Finding.{Finding}
-use Rattle.why.specs.Findings.{status_in, why}
+use Rattle.why.specs.Findings.{Finding, status_in, why}
 use Rattle.why.specs.Wording.{text_of}
 
 -- the shortest text buffer that is taken (02, E3)

@@ -1,6 +1,6 @@
 -- What is told of a finding: the status by its name in 001, the condition in words, and the place (02, E3). Numbers are decimal and counted from 0.
 -- docs/WHY.md has every wording with an example.
-use Rattle.std.specs.Prelude.{ℕ, true, false, List, [], ◌∷◌, ◌++◌, eqb}
+use Rattle.std.specs.Prelude.{ℕ, true, false, List, [], ◌∷◌, ◌++◌, eqb, Ok, Err}
 use Prim.Native.String.{String}
 use Rattle.model.specs.Statuses as Statuses
 use Rattle.model.specs.Octets.{Octets}
@@ -20,8 +20,8 @@ use Rattle.model.specs.declared.Reason.TheVariants.{BredrOff, LowEnergyNeeded, P
 use Rattle.model.specs.declared.Reason.TheVariants.{LowEnergyOff, AdvertisingTimeoutUnpowered}
 use Rattle.model.specs.declared.Reason.TheVariants.{NoFreeSlot, UuidAbsent, NoKeyOfDevice, AlreadyBlocked, NotBlocked, DeviceAbsent}
 use Rattle.model.specs.declared.Reason.TheVariants.{InstanceAbsent}
-use Rattle.why.specs.declared.Finding.{Finding}
-use Rattle.why.specs.declared.Finding.TheVariants.{Taken, Busy, Wrong}
+use Rattle.why.specs.declared.Objection.TheVariants.{Busy, Wrong}
+use Rattle.why.specs.Findings.{Finding}
 use Rattle.why.specs.Spelling.{spelled, decimal}
 
 -- the statuses that the hub refuses with, by their names (001, Error Codes)
@@ -111,9 +111,9 @@ place_words (Records a b) = spelled ", records " ++ (decimal a ++ (spelled " and
 
 -- what is told
 unfoldable pub text_of : Finding → Octets
-text_of Taken = spelled "would be taken"
-text_of Busy = spelled (status_name Statuses.busy) ++ spelled ": another settings command is under way at this index"
-text_of (Wrong r p) = spelled (status_name (status_of r)) ++ (spelled ": " ++ (spelled (condition r) ++ place_words p))
+text_of (Ok _) = spelled "would be taken"
+text_of (Err Busy) = spelled (status_name Statuses.busy) ++ spelled ": another settings command is under way at this index"
+text_of (Err (Wrong r p)) = spelled (status_name (status_of r)) ++ (spelled ": " ++ (spelled (condition r) ++ place_words p))
 
 -- Named on an `unfolding` line, this opens every definition of the module: for examples that are computed.
 unfoldable pub open_wording : Unit {0}

@@ -1,4 +1,4 @@
--- The name of a status, as an if for each status finds it: the name beside that number, or none.
+-- The name of a status, as an arm for each status finds it: the name beside that number, or none.
 use Prim.Native.Nat.{ℕ}
 use Prim.Native.String.{String}
 use mathlib.Core.Path.{◌≡◌, refl}

@@ -1,5 +1,5 @@
 // The text that tells what is found of a packet, written into lent octets: the status by its name, the condition in words, and the place.
-#![tactic(auto)]
+#![tactic(auto, unfolding(model::specs::Reasons::status_of, why::specs::Findings::status_in))]
 
 ghost use Rattle.std.specs.Prelude.{◌≡◌, ◌+◌, ◌≤◌, ◌<◌, length, drop};
 ghost use Rattle.model.specs.Reasons.{status_of};
@@ -10,7 +10,7 @@ ghost use Rattle.octets.specs.Parts.{write_at};
 ghost use Rattle.wording.specs.Order.{order};
 
 use model::{Place, Reason, statuses};
-use why::Finding;
+use why::Objection;
 
 // The status that a reason is answered with.
 fn reason_status(reason: Reason) -> u8
@@ -18,67 +18,63 @@ fn reason_status(reason: Reason) -> u8
 {
     match reason {
         Reason::CodeUnknown => statuses::UNKNOWN_COMMAND,
-        Reason::IndexNotNone => statuses::INVALID_INDEX,
-        Reason::ControllerAbsent => statuses::INVALID_INDEX,
+        Reason::IndexNotNone | Reason::ControllerAbsent => statuses::INVALID_INDEX,
         Reason::LengthWrong => statuses::INVALID_PARAMETERS,
         Reason::CountAbove32 => statuses::NO_RESOURCES,
-        Reason::DebugFlagAbove1 => statuses::INVALID_PARAMETERS,
-        Reason::KeyTypeAbove8 => statuses::INVALID_PARAMETERS,
-        Reason::KeyTypeAbove4 => statuses::INVALID_PARAMETERS,
-        Reason::MasterAbove1 => statuses::INVALID_PARAMETERS,
-        Reason::KeySizeNot7To16 => statuses::INVALID_PARAMETERS,
-        Reason::RecordRepeated => statuses::INVALID_PARAMETERS,
-        Reason::AddressTypeNotBredr => statuses::INVALID_PARAMETERS,
-        Reason::AddressTypeNotLe => statuses::INVALID_PARAMETERS,
-        Reason::AddressTypeAbove2 => statuses::INVALID_PARAMETERS,
-        Reason::AddressZero => statuses::INVALID_PARAMETERS,
-        Reason::AddressNotStaticRandom => statuses::INVALID_PARAMETERS,
-        Reason::AddressZeroNotBredr => statuses::INVALID_PARAMETERS,
-        Reason::ValueAbove1 => statuses::INVALID_PARAMETERS,
-        Reason::ValueAbove2 => statuses::INVALID_PARAMETERS,
-        Reason::TimeoutWithValue0 => statuses::INVALID_PARAMETERS,
-        Reason::NoTimeoutWithValue2 => statuses::INVALID_PARAMETERS,
-        Reason::NameNotEnded => statuses::INVALID_PARAMETERS,
-        Reason::ShortNameNotEnded => statuses::INVALID_PARAMETERS,
-        Reason::UuidZero => statuses::INVALID_PARAMETERS,
-        Reason::DisconnectAbove1 => statuses::INVALID_PARAMETERS,
-        Reason::ActionAbove2 => statuses::INVALID_PARAMETERS,
-        Reason::ActionNot1ForBredr => statuses::INVALID_PARAMETERS,
-        Reason::InstanceNot1To5 => statuses::INVALID_PARAMETERS,
-        Reason::AdvertisingFlags => statuses::INVALID_PARAMETERS,
-        Reason::AdvDataAbove31 => statuses::INVALID_PARAMETERS,
-        Reason::ScanRspAbove31 => statuses::INVALID_PARAMETERS,
-        Reason::BredrNotSupported => statuses::NOT_SUPPORTED,
-        Reason::LeNotSupported => statuses::NOT_SUPPORTED,
-        Reason::DiscoverableTimeoutUnpowered => statuses::NOT_POWERED,
-        Reason::Unpowered => statuses::NOT_POWERED,
-        Reason::NoAddressForPower => statuses::REJECTED,
-        Reason::NotConnectable => statuses::REJECTED,
-        Reason::BredrOff => statuses::REJECTED,
-        Reason::LowEnergyNeeded => statuses::REJECTED,
-        Reason::PoweredForBredrOff => statuses::REJECTED,
-        Reason::StaticAddressForBredr => statuses::REJECTED,
-        Reason::PoweredForStaticAddress => statuses::REJECTED,
-        Reason::LowEnergyOff => statuses::REJECTED,
-        Reason::AdvertisingTimeoutUnpowered => statuses::REJECTED,
+        Reason::DebugFlagAbove1
+        | Reason::KeyTypeAbove8
+        | Reason::KeyTypeAbove4
+        | Reason::MasterAbove1
+        | Reason::KeySizeNot7To16
+        | Reason::RecordRepeated
+        | Reason::AddressTypeNotBredr
+        | Reason::AddressTypeNotLe
+        | Reason::AddressTypeAbove2
+        | Reason::AddressZero
+        | Reason::AddressNotStaticRandom
+        | Reason::AddressZeroNotBredr
+        | Reason::ValueAbove1
+        | Reason::ValueAbove2
+        | Reason::TimeoutWithValue0
+        | Reason::NoTimeoutWithValue2
+        | Reason::NameNotEnded
+        | Reason::ShortNameNotEnded
+        | Reason::UuidZero
+        | Reason::DisconnectAbove1
+        | Reason::ActionAbove2
+        | Reason::ActionNot1ForBredr
+        | Reason::InstanceNot1To5
+        | Reason::AdvertisingFlags
+        | Reason::AdvDataAbove31
+        | Reason::ScanRspAbove31 => statuses::INVALID_PARAMETERS,
+        Reason::BredrNotSupported | Reason::LeNotSupported => statuses::NOT_SUPPORTED,
+        Reason::DiscoverableTimeoutUnpowered | Reason::Unpowered => statuses::NOT_POWERED,
+        Reason::NoAddressForPower
+        | Reason::NotConnectable
+        | Reason::BredrOff
+        | Reason::LowEnergyNeeded
+        | Reason::PoweredForBredrOff
+        | Reason::StaticAddressForBredr
+        | Reason::PoweredForStaticAddress
+        | Reason::LowEnergyOff
+        | Reason::AdvertisingTimeoutUnpowered => statuses::REJECTED,
         Reason::NoFreeSlot => statuses::NO_RESOURCES,
         Reason::UuidAbsent => statuses::INVALID_PARAMETERS,
         Reason::NoKeyOfDevice => statuses::NOT_PAIRED,
         Reason::AlreadyBlocked => statuses::FAILED,
-        Reason::NotBlocked => statuses::INVALID_PARAMETERS,
-        Reason::DeviceAbsent => statuses::INVALID_PARAMETERS,
-        Reason::InstanceAbsent => statuses::INVALID_PARAMETERS,
+        Reason::NotBlocked | Reason::DeviceAbsent | Reason::InstanceAbsent =>
+            statuses::INVALID_PARAMETERS,
     }
 }
 
-// The status that the hub would answer with, 0 if it would take the packet.
-pub fn status(f: Finding) -> u8
+// The status that the hub would answer with, 0 if it would take the packet: the number that C is told.
+pub fn status(f: Result<(), Objection>) -> u8
     ensures { result ≡ status_in f }
 {
     match f {
-        Finding::Taken => statuses::SUCCESS,
-        Finding::Busy => statuses::BUSY,
-        Finding::Wrong(reason, _) => reason_status(reason),
+        Ok(()) => statuses::SUCCESS,
+        Err(Objection::Busy) => statuses::BUSY,
+        Err(Objection::Wrong(reason, _)) => reason_status(reason),
     }
 }
 
@@ -96,37 +92,19 @@ fn put_status(text: &mut [u8], status: u8) -> usize
     requires { 18 ≤ length text.old }
     ensures { (text.new ≡ write_at text.old 0 (spelled (status_name status))) × (result ≡ length (spelled (status_name status))) }
 {
-    if status == statuses::UNKNOWN_COMMAND {
-        return put(text, 0, b"Unknown Command");
+    match status {
+        statuses::UNKNOWN_COMMAND => put(text, 0, b"Unknown Command"),
+        statuses::FAILED => put(text, 0, b"Failed"),
+        statuses::NOT_PAIRED => put(text, 0, b"Not Paired"),
+        statuses::NO_RESOURCES => put(text, 0, b"No Resources"),
+        statuses::BUSY => put(text, 0, b"Busy"),
+        statuses::REJECTED => put(text, 0, b"Rejected"),
+        statuses::NOT_SUPPORTED => put(text, 0, b"Not Supported"),
+        statuses::INVALID_PARAMETERS => put(text, 0, b"Invalid Parameters"),
+        statuses::NOT_POWERED => put(text, 0, b"Not Powered"),
+        statuses::INVALID_INDEX => put(text, 0, b"Invalid Index"),
+        _ => 0,
     }
-    if status == statuses::FAILED {
-        return put(text, 0, b"Failed");
-    }
-    if status == statuses::NOT_PAIRED {
-        return put(text, 0, b"Not Paired");
-    }
-    if status == statuses::NO_RESOURCES {
-        return put(text, 0, b"No Resources");
-    }
-    if status == statuses::BUSY {
-        return put(text, 0, b"Busy");
-    }
-    if status == statuses::REJECTED {
-        return put(text, 0, b"Rejected");
-    }
-    if status == statuses::NOT_SUPPORTED {
-        return put(text, 0, b"Not Supported");
-    }
-    if status == statuses::INVALID_PARAMETERS {
-        return put(text, 0, b"Invalid Parameters");
-    }
-    if status == statuses::NOT_POWERED {
-        return put(text, 0, b"Not Powered");
-    }
-    if status == statuses::INVALID_INDEX {
-        return put(text, 0, b"Invalid Index");
-    }
-    0
 }
 
 // The condition of a reason of the last third, in words, written from the place `at` on. Returns where it ends.
@@ -253,6 +231,7 @@ fn last_digits(n: usize, out: &mut [u8; 20]) -> usize
 {
     let mut at: usize = 20;
     let mut rest = n;
+    // not a `for`: the loop counts nothing, it ends with the digits of the number
     while 10 <= rest {
         at = at - 1;
         out[at] = (48 + rest % 10) as u8;
@@ -270,9 +249,7 @@ fn put_decimal(text: &mut [u8], at: usize, n: usize) -> usize
 {
     let mut digits: [u8; 20] = [0; 20];
     let first = last_digits(n, &mut digits);
-    let count = 20 - first;
-    octets::copy_part(text, at, &digits, first, count);
-    at + count
+    put(text, at, &digits[first..])
 }
 
 // A place in words, written from the place `at` on. Returns where it ends.
@@ -302,18 +279,18 @@ fn put_place(text: &mut [u8], at: usize, place: Place) -> usize
 }
 
 // What is found, in words. Returns the count of octets.
-pub fn write_text(text: &mut [u8], f: Finding) -> usize
+pub fn write_text(text: &mut [u8], f: Result<(), Objection>) -> usize
     requires { 256 ≤ length text.old }
     ensures { (text.new ≡ write_at text.old 0 (text_of f)) × (result ≡ length (text_of f)) }
 {
     match f {
-        Finding::Taken => put(text, 0, b"would be taken"),
-        Finding::Busy => put(
+        Ok(()) => put(text, 0, b"would be taken"),
+        Err(Objection::Busy) => put(
             text,
             0,
             b"Busy: another settings command is under way at this index",
         ),
-        Finding::Wrong(reason, place) => {
+        Err(Objection::Wrong(reason, place)) => {
             let name = put_status(text, reason_status(reason));
             let from = put(text, name, b": ");
             let next = put_condition(text, from, reason);

@@ -1,107 +1,45 @@
--- `advertising::add_advertising` meets its contract.
-use mathlib.Core.Path.{◌≡◌, refl, sym, ap, ◌∙◌, subst}
-use mathlib.Core.List.{List, [], ◌∷◌, ◌++◌}
-use mathlib.Core.Logic.{⊎_elim}
-use Prim.Native.Nat.{ℕ, zero, suc, ◌+◌, ◌-◌, ◌*◌, ◌≤◌, ◌<◌}
-use native.Mathlib.Omega.{arith}
-use lib.ListN.{length, take, drop, get_or, set, length-set}
-use Rattle.advertising.proofs.Adding.{add_changed, add_length, add_new, add_refused, keep_asks, radio_of}
-use Rattle.advertising.proofs.Refusals.{checks_passed, none_refuses, size_true}
-use Rattle.advertising.specs.Refusals.{status_if}
+-- `advertising::add_advertising` meets its contract. The tests that led to each return pick the case of the model's definition.
+use Rattle.std.proofs.Common.{length-take, ◌≤◌, length, sym, refl, ap, ◌∙◌, arith}
 use Rattle.model.specs.declared.RadioSettings.{RadioSettings}
-use Rattle.model.specs.Reasons.{first_of}
-use Rattle.model.specs.Immediate.{advertising_checks}
-use Rattle.model.proofs.Model.Tests.{not-false, not-true}
-use Rattle.advertising.proofs.Adding.{refusal_here}
-use borrow.Author.Rules.{rules}
+use Rattle.octets.specs.Parts.{part}
+use Rattle.advertising.proofs.Adding.{add_changed, add_length, add_new, add_refused, keep_asks, radio_of, refusal_here}
+use Rattle.advertising.proofs.Refusals.{checks_passed, none_refuses, size_true}
 use Rattle.advertising.proofs.add_advertising.Goals as goal
 
--- src/lib.rt:98:9
 pub returns-then-not-sized : goal.returns-then-not-sized
-returns-then-not-sized c =
-    add_length _ _ _ _ _ _ c.requires.0
-    c.requires.1
-    (sym c.sized.ensures ∙ not-true _ c.if-not-sized.true-raw)
-    c.refuse.ensures.0 c.refuse.ensures.1
+returns-then-not-sized c = add_length _ _ _ _ _ _ c.requires.0 c.requires.1 (sym c.sized.ensures ∙ c.if-not-sized.true) c.refuse.ensures.0 c.refuse.ensures.1
 
--- src/lib.rt:102:9
-pub refusal-status-requires : goal.refusal-status-requires
-refusal-status-requires c = (size_true _ (sym c.sized.ensures ∙ not-false _ c.if-not-sized.false-raw)).0
+pub refusal-requires : goal.refusal-requires
+refusal-requires c = (size_true _ (sym c.sized.ensures ∙ c.if-not-sized.false)).0
 
--- src/lib.rt:104:9
-pub returns-then-status-ne0 : goal.returns-then-status-ne0
-returns-then-status-ne0 c =
-    add_refused _ _ _ _ _ _ c.requires.0
-    c.requires.1 _
-    (sym c.sized.ensures
-    ∙ not-false _ c.if-not-sized.false-raw)
-    (refusal_here _ _ _ _ c.refusal-status.ensures
-    c.settings_at-m.ensures) c.if-status-ne0.true
-    c.refuse-then-status-ne0.ensures.0 c.refuse-then-status-ne0.ensures.1
+pub returns-in-Some : goal.returns-in-Some
+returns-in-Some c =
+    add_refused _ _ _ _ _ _ c.requires.0 c.requires.1 _ (sym c.sized.ensures ∙ c.if-not-sized.false) (sym (refusal_here _ _ _ _ c.refusal.ensures c.settings_at.ensures) ∙ c.in-Some.is)
+    c.refuse-in-Some.ensures.0 c.refuse-in-Some.ensures.1
 
--- src/lib.rt:107:5
 pub keep-requires : goal.keep-requires
-keep-requires c =
-    keep_asks _ _ _ _ c.requires.0
-    (sym c.sized.ensures
-    ∙ not-false _ c.if-not-sized.false-raw)
-    (none_refuses _ _ (sym (refusal_here _ _ _ _ c.refusal-status.ensures
-    c.settings_at-m.ensures) ∙ c.if-status-ne0.false)) c.schedule_at-old.ensures
+keep-requires c = keep_asks _ _ _ _ c.requires.0 (sym c.sized.ensures ∙ c.if-not-sized.false) (none_refuses _ (sym (refusal_here _ _ _ _ c.refusal.ensures c.settings_at.ensures) ∙ c.in_default.is)) c.schedule_at-old.ensures
 
--- src/lib.rt:108:5
-pub command_complete_part-requires : goal.command_complete_part-requires
-command_complete_part-requires c = let l = (size_true _
-    (sym c.sized.ensures
-    ∙ not-false _ c.if-not-sized.false-raw)).0 in
-    (search rules, omega arith)
+pub slice_bounds-command_complete-end : goal.slice_bounds-command_complete-end
+slice_bounds-command_complete-end c = let l : 11 ≤ length c.args.ps.now = (size_true _ (sym c.sized.ensures ∙ c.if-not-sized.false)).0 in simp length-take (omega arith)
 
--- src/lib.rt:109:31
 pub bounds-ps-0 : goal.bounds-ps-0
-bounds-ps-0 c = let l = (size_true _
-    (sym c.sized.ensures ∙ not-false _ c.if-not-sized.false-raw)).0 in omega arith
+bounds-ps-0 c = let l : 11 ≤ length c.args.ps.now = (size_true _ (sym c.sized.ensures ∙ c.if-not-sized.false)).0 in omega arith
 
--- src/lib.rt:109:8
 pub is_present-requires : goal.is_present-requires
-is_present-requires c = (checks_passed _ _
-    (none_refuses _ _ (sym (refusal_here _ _ _ _
-    c.refusal-status.ensures
-    c.settings_at-m.ensures)
-    ∙ c.if-status-ne0.false))).1
+is_present-requires c = (checks_passed _ _ (none_refuses _ (sym (refusal_here _ _ _ _ c.refusal.ensures c.settings_at.ensures) ∙ c.in_default.is))).1
 
--- src/lib.rt:110:9
 pub returns-then-is_present : goal.returns-then-is_present
+unfolding part
 returns-then-is_present c =
-    add_changed _ _ _ _ _ _ c.requires.0
-    c.requires.1 _ _ _
-    (sym c.sized.ensures ∙ not-false _
-    c.if-not-sized.false-raw) (none_refuses _ _ (sym (refusal_here _ _ _ _
-    c.refusal-status.ensures
-    c.settings_at-m.ensures) ∙ c.if-status-ne0.false))
-    c.schedule_at-old.ensures
-    (ap (λ (x : RadioSettings). x.powered) (radio_of _ _
-    c.settings_at-m.ensures))
-    (sym c.is_present.ensures ∙ c.if-is_present.true) refl c.command_complete_part.ensures
-    c.keep.ensures
+    add_changed _ _ _ _ _ _ c.requires.0 c.requires.1 _ _ _ (sym c.sized.ensures ∙ c.if-not-sized.false) (none_refuses _ (sym (refusal_here _ _ _ _ c.refusal.ensures c.settings_at.ensures) ∙ c.in_default.is)) c.schedule_at-old.ensures
+    (ap (λ (x : RadioSettings). x.powered) (radio_of _ _ c.settings_at.ensures)) (sym c.is_present.ensures ∙ c.if-is_present.true) refl c.command_complete.ensures c.keep.ensures
 
--- src/lib.rt:112:50
 pub bounds-ps-0-2 : goal.bounds-ps-0-2
-bounds-ps-0-2 c = let l = (size_true _
-    (sym c.sized.ensures
-    ∙ not-false _ c.if-not-sized.false-raw)).0 in omega arith
+bounds-ps-0-2 c = let l : 11 ≤ length c.args.ps.now = (size_true _ (sym c.sized.ensures ∙ c.if-not-sized.false)).0 in omega arith
 
--- src/lib.rt:90:1
 pub returns : goal.returns
+unfolding part
 returns c =
-    add_new _ _ _ _ _ _ c.requires.0
-    c.requires.1 _ _ _
-    (sym c.sized.ensures
-    ∙ not-false _ c.if-not-sized.false-raw)
-    (none_refuses _ _ (sym (refusal_here _ _ _ _
-    c.refusal-status.ensures c.settings_at-m.ensures)
-    ∙ c.if-status-ne0.false))
-    c.schedule_at-old.ensures (ap (λ (x : RadioSettings). x.powered)
-    (radio_of _ _ c.settings_at-m.ensures))
-    (sym c.is_present.ensures ∙ c.if-is_present.false) refl
-    (c.advertising_added.ensures
-    ∙ rw c.command_complete_part.ensures)
-    c.keep.ensures
+    add_new _ _ _ _ _ _ c.requires.0 c.requires.1 _ _ _ (sym c.sized.ensures ∙ c.if-not-sized.false) (none_refuses _ (sym (refusal_here _ _ _ _ c.refusal.ensures c.settings_at.ensures) ∙ c.in_default.is)) c.schedule_at-old.ensures
+    (ap (λ (x : RadioSettings). x.powered) (radio_of _ _ c.settings_at.ensures)) (sym c.is_present.ensures ∙ c.if-is_present.false) refl (c.advertising_added.ensures ∙ rw c.command_complete.ensures) c.keep.ensures

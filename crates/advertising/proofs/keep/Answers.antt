@@ -1,10 +1,6 @@
 -- `advertising::keep` meets its contract. Turns and data are those of the packet.
-use mathlib.Core.Path.{◌≡◌, refl, sym, ap, ◌∙◌, subst}
-use mathlib.Core.List.{List, [], ◌∷◌, ◌++◌}
-use mathlib.Core.Logic.{⊎_elim}
-use Prim.Native.Nat.{ℕ, zero, suc, ◌+◌, ◌-◌, ◌*◌, ◌≤◌, ◌<◌}
-use native.Mathlib.Omega.{arith}
-use lib.ListN.{length, take, drop, get_or, set, length-set}
+use mathlib.Core.Path.{refl, ap, ◌∙◌}
+use Prim.Native.Nat.{ℕ, ◌+◌}
 use Rattle.advertising.proofs.Adding.{kept, tail_short}
 use Rattle.model.specs.Advertising.{added_instance, whole_turn}
 use Rattle.octets.specs.Parts.{part}
@@ -19,8 +15,7 @@ put_instance-requires c =
       p.3,
       p.4,
       search rules,
-      tail_short c.args.ps.now
-          _ _ p.2 p.6,
+      rw c.from-mid.ensures (tail_short c.args.ps.now _ _ p.2 p.6),
     )
 
 -- src/lib.rt:68:1
@@ -29,6 +24,6 @@ unfolding part
 returns c =
     kept _ _ _ _ _ _ _ _ _ _ _ _ refl (c.whole_turn-duration.ensures
     ∙ ap whole_turn c.u16_at.ensures.0)
-    c.u16_at-timeout.ensures.0 refl
+    c.u16_at-timeout.ensures.0 (ap (λ (x : ℕ). 11 + x) c.from-mid.ensures)
     (c.add-next.ensures
     ∙ ap (added_instance _ _ _ _) c.requires.7) refl refl c.put_instance.ensures

@@ -1,14 +1,8 @@
 -- `advertising::on_air` meets its contract.
-use mathlib.Core.Path.{◌≡◌, refl, sym, ap, ◌∙◌, subst}
-use mathlib.Core.List.{List, [], ◌∷◌, ◌++◌}
-use mathlib.Core.Logic.{⊎_elim}
-use Prim.Native.Nat.{ℕ, zero, suc, ◌+◌, ◌-◌, ◌*◌, ◌≤◌, ◌<◌}
-use native.Mathlib.Omega.{arith}
-use lib.ListN.{length, take, drop, get_or, set, length-set}
+use mathlib.Core.Path.{refl, sym, ap, ◌∙◌}
 use Rattle.advertising.proofs.Telling.{is_ready, on_air_most, told_absent, told_none}
 use Rattle.model.specs.declared.Schedule.{Schedule}
 use Rattle.advertising.proofs.Telling.{not_zero}
-use borrow.Author.Rules.{rules}
 use Rattle.advertising.proofs.on_air.Goals as goal
 
 -- src/lib.rt:183:13

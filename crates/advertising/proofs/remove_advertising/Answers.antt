@@ -1,12 +1,7 @@
 -- `advertising::remove_advertising` meets its contract.
-use mathlib.Core.Path.{◌≡◌, refl, sym, ap, ◌∙◌, subst}
-use mathlib.Core.List.{List, [], ◌∷◌, ◌++◌}
-use mathlib.Core.Logic.{⊎_elim}
-use Prim.Native.Nat.{ℕ, zero, suc, ◌+◌, ◌-◌, ◌*◌, ◌≤◌, ◌<◌}
+use mathlib.Core.Path.{refl, sym, ◌∙◌}
 use native.Mathlib.Omega.{arith}
-use lib.ListN.{length, take, drop, get_or, set, length-set}
 use Rattle.advertising.proofs.Removing.{remove_absent, remove_done, remove_length}
-use borrow.Author.Rules.{rules}
 use Rattle.advertising.proofs.remove_advertising.Goals as goal
 
 -- src/lib.rt:138:9

@@ -1,12 +1,6 @@
 -- `advertising::tell` meets its contract. Five writes behind one another.
-use mathlib.Core.Path.{◌≡◌, refl, sym, ap, ◌∙◌, subst}
-use mathlib.Core.List.{List, [], ◌∷◌, ◌++◌}
-use mathlib.Core.Logic.{⊎_elim}
-use Prim.Native.Nat.{ℕ, zero, suc, ◌+◌, ◌-◌, ◌*◌, ◌≤◌, ◌<◌}
-use native.Mathlib.Omega.{arith}
-use lib.ListN.{length, take, drop, get_or, set, length-set}
+use mathlib.Core.Path.{refl, ◌∙◌}
 use Rattle.advertising.proofs.Telling.{told_on_air}
-use borrow.Author.Rules.{rules}
 use Rattle.advertising.proofs.tell.Goals as goal
 
 -- src/lib.rt:158:1

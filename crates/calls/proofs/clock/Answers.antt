@@ -1,8 +1,6 @@
 -- `calls::clock` meets its contract.
 use mathlib.Core.Path.{refl}
-use Prim.Native.Nat.{◌-◌}
 use Rattle.calls.proofs.Reading.{clock_late, clock_done}
-use borrow.Author.Rules.{rules}
 use Rattle.calls.proofs.clock.Goals as goal
 
 pub returns-then-step-ge2147483648 : goal.returns-then-step-ge2147483648

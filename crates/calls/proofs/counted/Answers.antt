@@ -1,8 +1,6 @@
 -- `calls::counted` meets its contract.
 use mathlib.Core.Path.{◌∙◌}
-use Prim.Native.Nat.{◌-◌}
-use borrow.Author.Rules.{rules}
 use Rattle.calls.proofs.counted.Goals as goal
 
 pub returns : goal.returns
-returns c = c.with_timer.ensures ∙ rw c.counted_down-left.ensures
+returns c = c.with_timer.ensures ∙ rw c.counted_down.ensures

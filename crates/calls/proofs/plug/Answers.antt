@@ -1,6 +1,5 @@
 -- `calls::plug` meets its contract.
 use mathlib.Core.Path.{refl, sym, ◌∙◌}
-use Prim.Native.Nat.{◌-◌}
 use Rattle.calls.proofs.Plugs.{plug_present, plug_above, plug_short, made_given, six_long}
 use Rattle.calls.specs.Given.{hardware_given}
 use Rattle.calls.proofs.Plugs.{made_unfit, made_done}
@@ -28,13 +27,13 @@ fill_block-requires c = (
   sym c.present.ensures
       ∙ c.if-present.false,
   six_long _ _ c.if-address-ne6.false
-      c.six-public_address.ensures,
+      c.six.ensures,
 )
 
 pub returns-then-hardware_ok : goal.returns-then-hardware_ok
 returns-then-hardware_ok c =
     made_done _ _ _ _ _ _ (made_given _ _ _ _ _ c.if-address-ne6.false
-    c.six-public_address.ensures)
+    c.six.ensures)
     c.requires.0
     (sym c.present.ensures
     ∙ c.if-present.false) _ _
@@ -45,7 +44,7 @@ returns-then-hardware_ok c =
 
 pub returns : goal.returns
 returns c =
-    made_unfit _ _ _ _ _ _ (made_given _ _ _ _ _ c.if-address-ne6.false c.six-public_address.ensures)
+    made_unfit _ _ _ _ _ _ (made_given _ _ _ _ _ c.if-address-ne6.false c.six.ensures)
     c.requires.0
     (sym c.present.ensures ∙ c.if-present.false)
     (sym c.hardware_ok.ensures ∙ c.if-hardware_ok.false) refl

@@ -1,9 +1,7 @@
 -- `calls::tick` meets its contract.
 use mathlib.Core.Path.{sym, ◌∙◌}
-use Prim.Native.Nat.{◌-◌}
 use Rattle.layout.proofs.Reading.{ready}
 use Rattle.calls.proofs.Reading.{tick_absent}
-use borrow.Author.Rules.{rules}
 use Rattle.calls.proofs.tick.Goals as goal
 
 pub schedule_at-was-requires : goal.schedule_at-was-requires

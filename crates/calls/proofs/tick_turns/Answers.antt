@@ -1,8 +1,6 @@
 -- `calls::tick_turns` meets its contract.
-use Prim.Native.Nat.{◌-◌}
 use native.Mathlib.Omega.{arith}
 use Rattle.calls.proofs.Reading.{sound, tick_turned}
-use borrow.Author.Rules.{rules}
 use Rattle.calls.proofs.tick_turns.Goals as goal
 
 pub settings_at-before-requires : goal.settings_at-before-requires

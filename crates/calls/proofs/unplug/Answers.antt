@@ -1,6 +1,5 @@
 -- `calls::unplug` meets its contract.
 use mathlib.Core.Path.{refl, sym, ◌∙◌}
-use Prim.Native.Nat.{◌-◌}
 use Rattle.layout.proofs.Reading.{ready, present_below}
 use Rattle.calls.proofs.Plugs.{unplug_absent, unplug_quiet, unplug_open}
 use borrow.Author.Rules.{rules}

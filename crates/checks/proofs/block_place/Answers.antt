@@ -2,7 +2,6 @@
 use mathlib.Core.Path.{◌∙◌}
 use native.Mathlib.Omega.{arith}
 use Rattle.checks.proofs.Laws.{place_one}
-use borrow.Author.Rules.{rules}
 use Rattle.checks.proofs.block_place.Goals as goal
 
 pub overflow_sub-result : goal.overflow_sub-result

@@ -1,8 +1,6 @@
--- `checks::name_ok` meets its contract. The law `name_is` gives the names' last octets where they lie.
-use mathlib.Core.Path.{◌∙◌}
-use native.Mathlib.Omega.{arith}
+-- `checks::name_ok` meets its contract. The names lie in the block, and the law says which two octets end them.
+use Rattle.std.proofs.Common.{◌∙◌, arith}
 use Rattle.checks.proofs.Laws.{tests, name_is}
-use borrow.Author.Rules.{rules}
 use Rattle.checks.proofs.Present.{place_name}
 use Rattle.checks.proofs.name_ok.Goals as goal
 
@@ -21,5 +19,5 @@ bounds-s-at-then-s-at-eq0 c = let e = c.name_place-at.ensures ∙ place_name _ i
 pub returns-then-s-at-eq0 : goal.returns-then-s-at-eq0
 returns-then-s-at-eq0 c = rw (name_is _ _ c.name_place-at.result c.name_place-at.ensures) (search tests)
 
-pub returns : goal.returns
-returns c = rw (name_is _ _ c.name_place-at.result c.name_place-at.ensures) (search tests)
+pub returns-else-s-at-eq0 : goal.returns-else-s-at-eq0
+returns-else-s-at-eq0 c = rw (name_is _ _ c.name_place-at.result c.name_place-at.ensures) (search tests)

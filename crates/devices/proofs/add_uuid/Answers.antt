@@ -1,6 +1,6 @@
 -- `devices::add_uuid` meets its contract.
 use mathlib.Core.Path.{sym, ◌∙◌}
-use Prim.Native.Nat.{◌-◌, ◌<◌}
+use native.Mathlib.Omega.{arith}
 use Rattle.devices.proofs.Uuids.{add_uuid_length, add_uuid_bad, add_uuid_full, add_uuid_done, size0}
 use Rattle.devices.proofs.Laws.{record_room, fits, canonical}
 use lib.Dec.{lit<}
@@ -16,8 +16,8 @@ returns-then-ps-ne17 c =
 pub record_ok-requires : goal.record_ok-requires
 record_ok-requires c = (lit< tt, record_room (rule_at 0) 17 c.args.ps.now size0 c.if-ps-ne17.false)
 
-pub slot_for-slot-requires : goal.slot_for-slot-requires
-slot_for-slot-requires c = (
+pub slot_for-requires : goal.slot_for-requires
+slot_for-requires c = (
   fits c.args.state.now
       c.args.index (search rules) 0 (lit< tt) _ 17 c.table_place-at.ensures
       size0,
@@ -35,34 +35,34 @@ store_uuid-requires c = (
       c.args.index (search rules) 0 (lit< tt) _ 17
       c.table_place-at.ensures
       size0,
-  c.if-slot-lt32.true,
+  c.in-Some.ensures.1,
   c.if-ps-ne17.false,
   search rules,
 )
 
-pub returns-then-slot-lt32 : goal.returns-then-slot-lt32
-returns-then-slot-lt32 c =
-    add_uuid_done _ _ _ _ _ _ (search rules) (search rules)
-    c.if-ps-ne17.false
-    (sym c.if-record_ok.true
-    ∙ c.record_ok.ensures) _ _
-    c.table_place-at.ensures
-    c.slot_for-slot.ensures.0 _
-    c.if-slot-lt32.true c.store_uuid.ensures.0
-    c.store_uuid.ensures.1 c.store_uuid.ensures.2
-
-pub returns-then-record_ok : goal.returns-then-record_ok
-returns-then-record_ok c =
-    add_uuid_full _ _ _ _ _ _ (search rules) (search rules)
-    c.if-ps-ne17.false
-    (sym c.if-record_ok.true
-    ∙ c.record_ok.ensures) _ _
-    c.table_place-at.ensures
-    c.slot_for-slot.ensures.0 c.if-slot-lt32.false
-    c.refuse-then-record_ok.ensures.0 c.refuse-then-record_ok.ensures.1
-
 pub returns : goal.returns
 returns c =
+    add_uuid_done _ _ _ _ _ _ (search rules) (search rules)
+    c.if-ps-ne17.false
+    (sym c.if-not-record_ok.false
+    ∙ c.record_ok.ensures) _ _
+    c.table_place-at.ensures
+    c.in-Some.ensures.0 _
+    c.in-Some.ensures.1 c.store_uuid.ensures.0
+    c.store_uuid.ensures.1 c.store_uuid.ensures.2
+
+pub returns-in_default : goal.returns-in_default
+returns-in_default c =
+    add_uuid_full _ _ _ _ _ _ (search rules) (search rules)
+    c.if-ps-ne17.false
+    (sym c.if-not-record_ok.false
+    ∙ c.record_ok.ensures) _ _
+    c.table_place-at.ensures
+    (sym c.in_default.ensures) (omega arith)
+    c.refuse-in_default.ensures.0 c.refuse-in_default.ensures.1
+
+pub returns-then-not-record_ok : goal.returns-then-not-record_ok
+returns-then-not-record_ok c =
     add_uuid_bad _ _ _ _ _ _ (search rules) (search rules) c.if-ps-ne17.false
-    (sym c.if-record_ok.false ∙ c.record_ok.ensures)
-    c.refuse-2.ensures.0 c.refuse-2.ensures.1
+    (sym c.if-not-record_ok.true ∙ c.record_ok.ensures)
+    c.refuse-then-not-record_ok.ensures.0 c.refuse-then-not-record_ok.ensures.1

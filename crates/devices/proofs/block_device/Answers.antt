@@ -1,9 +1,8 @@
 -- `devices::block_device` meets its contract.
-use mathlib.Core.Path.{sym, ◌∙◌}
-use Prim.Native.Nat.{◌-◌, ◌<◌}
+use mathlib.Core.Path.{refl, sym, ◌∙◌}
 use native.Mathlib.Omega.{arith}
 use Rattle.devices.proofs.Bridge.{block_length, block_bad, block_again, block_full, block_done, size4}
-use Rattle.devices.proofs.Laws.{record_room, fits, canonical}
+use Rattle.devices.proofs.Laws.{told_here, told_away, record_room, fits, canonical}
 use lib.Dec.{lit<}
 use Rattle.model.specs.Tables.{rule_at}
 use borrow.Author.Rules.{rules}
@@ -17,8 +16,8 @@ returns-then-ps-ne7 c =
 pub record_ok-requires : goal.record_ok-requires
 record_ok-requires c = (lit< tt, record_room (rule_at 4) 7 c.args.ps.now size4 c.if-ps-ne7.false)
 
-pub find-found-requires : goal.find-found-requires
-find-found-requires c = (
+pub find-requires : goal.find-requires
+find-requires c = (
   fits c.args.state.now
       c.args.index (search rules) 4 (lit< tt) _ 7 c.table_place-at.ensures
       size4,
@@ -26,17 +25,17 @@ find-found-requires c = (
   search rules,
 )
 
-pub returns-then-found-lt32 : goal.returns-then-found-lt32
-returns-then-found-lt32 c =
+pub returns-then-is_some : goal.returns-then-is_some
+returns-then-is_some c =
     block_again _ _ _ _ _ _ (search rules) (search rules)
     c.if-ps-ne7.false
-    (sym c.if-record_ok.true
+    (sym c.if-not-record_ok.false
     ∙ c.record_ok.ensures) _ _
-    c.table_place-at.ensures c.find-found.ensures.0
-    c.if-found-lt32.true c.refuse_address.ensures.0 c.refuse_address.ensures.1
+    c.table_place-at.ensures refl
+    (told_here _ _ c.find.ensures (sym c.is_some.ensures ∙ c.if-is_some.true)) c.refuse_address-then-is_some.ensures.0 c.refuse_address-then-is_some.ensures.1
 
-pub free_slot-slot-requires : goal.free_slot-slot-requires
-free_slot-slot-requires c =
+pub free_slot-requires : goal.free_slot-requires
+free_slot-requires c =
     let f = fits c.args.state.now
     c.args.index (search rules) 4 (lit< tt) _ 7
     c.table_place-at.ensures size4 in omega arith
@@ -51,38 +50,38 @@ store-requires c = (
       c.args.index (search rules) 4
       (lit< tt) _ 7 c.table_place-at.ensures
       size4,
-  c.if-slot-lt32.true,
+  (c.in-Some.ensures 7).1,
   c.if-ps-ne7.false,
 )
 
-pub returns-then-slot-lt32 : goal.returns-then-slot-lt32
-returns-then-slot-lt32 c =
+pub returns : goal.returns
+returns c =
     block_done _ _ _ _ _ _ (search rules) (search rules)
     c.if-ps-ne7.false
-    (sym c.if-record_ok.true
+    (sym c.if-not-record_ok.false
     ∙ c.record_ok.ensures) _ _
     c.table_place-at.ensures
-    c.find-found.ensures.0 _
-    c.if-found-lt32.false
-    (c.free_slot-slot.ensures.0 7) _
-    c.if-slot-lt32.true
+    refl _
+    (told_away _ _ c.find.ensures (sym c.is_some.ensures ∙ c.if-is_some.false))
+    (c.in-Some.ensures 7).0 _
+    (c.in-Some.ensures 7).1
     c.store.ensures c.device_reply.ensures.0
     c.device_reply.ensures.1
 
-pub returns-then-record_ok : goal.returns-then-record_ok
-returns-then-record_ok c =
+pub returns-in_default : goal.returns-in_default
+returns-in_default c =
     block_full _ _ _ _ _ _ (search rules) (search rules)
     c.if-ps-ne7.false
-    (sym c.if-record_ok.true
+    (sym c.if-not-record_ok.false
     ∙ c.record_ok.ensures) _ _
     c.table_place-at.ensures
-    c.find-found.ensures.0 _
-    c.if-found-lt32.false (c.free_slot-slot.ensures.0 7)
-    c.free_slot-slot.ensures.1 c.if-slot-lt32.false
-    c.refuse_address-then-record_ok.ensures.0 c.refuse_address-then-record_ok.ensures.1
+    refl _
+    (told_away _ _ c.find.ensures (sym c.is_some.ensures ∙ c.if-is_some.false)) (sym (c.in_default.ensures 7))
+    (omega arith) (omega arith)
+    c.refuse_address-in_default.ensures.0 c.refuse_address-in_default.ensures.1
 
-pub returns : goal.returns
-returns c =
+pub returns-then-not-record_ok : goal.returns-then-not-record_ok
+returns-then-not-record_ok c =
     block_bad _ _ _ _ _ _ (search rules) (search rules) c.if-ps-ne7.false
-    (sym c.if-record_ok.false ∙ c.record_ok.ensures)
-    c.refuse_address-2.ensures.0 c.refuse_address-2.ensures.1
+    (sym c.if-not-record_ok.true ∙ c.record_ok.ensures)
+    c.refuse_address.ensures.0 c.refuse_address.ensures.1

@@ -1,7 +1,5 @@
 -- `devices::class_reply` meets its contract.
-use Prim.Native.Nat.{◌-◌}
 use Rattle.devices.proofs.Uuids.{class_same, class_new, count_same, count_new}
-use borrow.Author.Rules.{rules}
 use Rattle.devices.proofs.class_reply.Goals as goal
 
 pub returns-then-old-new : goal.returns-then-old-new

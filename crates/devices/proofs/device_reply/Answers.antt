@@ -1,6 +1,5 @@
 -- `devices::device_reply` meets its contract.
 use mathlib.Core.Path.{refl}
-use Prim.Native.Nat.{◌-◌}
 use Rattle.devices.proofs.Laws.{device_written}
 use borrow.Author.Rules.{rules}
 use Rattle.devices.proofs.device_reply.Goals as goal
@@ -8,6 +7,6 @@ use Rattle.devices.proofs.device_reply.Goals as goal
 pub returns : goal.returns
 returns c = (
   refl,
-  device_written _ _ _ _ _ _ _ (search rules) c.command_complete_part.ensures
+  device_written _ _ _ _ _ _ _ (search rules) c.command_complete.ensures
       c.event.ensures,
 )

@@ -1,6 +1,5 @@
 -- `devices::remove_device` meets its contract.
 use mathlib.Core.Path.{refl, sym, ◌∙◌}
-use Prim.Native.Nat.{◌-◌, ◌<◌}
 use Rattle.devices.proofs.Walk.{remove_device_length, remove_device_bad, remove_device_absent, remove_device_done}
 use Rattle.devices.proofs.Bridge.{size5}
 use Rattle.devices.proofs.Laws.{fits, canonical}
@@ -43,32 +42,32 @@ release_named-requires c = (
   search rules,
 )
 
-pub returns-then-names_record : goal.returns-then-names_record
-returns-then-names_record c =
+pub returns : goal.returns
+returns c =
     remove_device_done _ _ _ _ _ _ (search rules) (search rules)
     c.if-ps-ne7.false
-    (sym c.if-removal_ok.true
+    (sym c.if-not-removal_ok.false
     ∙ c.removal_ok.ensures)
     _ c.table_place-at.ensures _
     c.all_zero-all.ensures _
     c.names_record.ensures _ _
-    c.if-names_record.true
+    c.if-not-names_record.false
     c.removed_reply-count.ensures.0
     c.removed_reply-count.ensures.1 c.release_named.ensures refl
 
-pub returns-then-removal_ok : goal.returns-then-removal_ok
-returns-then-removal_ok c =
+pub returns-then-not-names_record : goal.returns-then-not-names_record
+returns-then-not-names_record c =
     remove_device_absent _ _ _ _ _ _ (search rules) (search rules)
     c.if-ps-ne7.false
-    (sym c.if-removal_ok.true
+    (sym c.if-not-removal_ok.false
     ∙ c.removal_ok.ensures) _
     c.table_place-at.ensures _
     c.all_zero-all.ensures _
-    c.names_record.ensures c.if-names_record.false
-    c.refuse_address.ensures.0 c.refuse_address.ensures.1
+    c.names_record.ensures c.if-not-names_record.true
+    c.refuse_address-then-not-names_record.ensures.0 c.refuse_address-then-not-names_record.ensures.1
 
-pub returns : goal.returns
-returns c =
+pub returns-then-not-removal_ok : goal.returns-then-not-removal_ok
+returns-then-not-removal_ok c =
     remove_device_bad _ _ _ _ _ _ (search rules) (search rules) c.if-ps-ne7.false
-    (sym c.if-removal_ok.false ∙ c.removal_ok.ensures)
-    c.refuse_address-2.ensures.0 c.refuse_address-2.ensures.1
+    (sym c.if-not-removal_ok.true ∙ c.removal_ok.ensures)
+    c.refuse_address.ensures.0 c.refuse_address.ensures.1

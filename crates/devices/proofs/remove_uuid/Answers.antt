@@ -1,5 +1,4 @@
 -- `devices::remove_uuid` meets its contract.
-use Prim.Native.Nat.{◌-◌, ◌<◌}
 use native.Mathlib.Omega.{arith}
 use Rattle.devices.proofs.Uuids.{remove_uuid_length, remove_uuid_absent, remove_uuid_done, size0}
 use Rattle.devices.proofs.Laws.{fits, canonical}
@@ -50,23 +49,23 @@ or_octets-new-requires c =
     (search rules) 0 (lit< tt) _ 17 c.table_place-at.ensures size0 in
     let k = c.release_named.auto.state in (omega arith, search rules)
 
-pub returns-then-names_record : goal.returns-then-names_record
-returns-then-names_record c =
+pub returns : goal.returns
+returns c =
     remove_uuid_done _ _ _ _ _ _ (search rules) (search rules)
     c.if-ps-ne16.false _
     c.table_place-at.ensures
     _
     c.all_zero-all.ensures _ c.names_record.ensures _ _
-    _ c.if-names_record.true
+    _ c.if-not-names_record.false
     c.or_octets-old.ensures
     c.release_named.ensures
     c.or_octets-new.ensures c.class_reply.ensures.0 c.class_reply.ensures.1
 
-pub returns : goal.returns
-returns c =
+pub returns-then-not-names_record : goal.returns-then-not-names_record
+returns-then-not-names_record c =
     remove_uuid_absent _ _ _ _ _ _ (search rules) (search rules)
     c.if-ps-ne16.false _
     c.table_place-at.ensures _
     c.all_zero-all.ensures _
-    c.names_record.ensures c.if-names_record.false
-    c.refuse-2.ensures.0 c.refuse-2.ensures.1
+    c.names_record.ensures c.if-not-names_record.true
+    c.refuse-then-not-names_record.ensures.0 c.refuse-then-not-names_record.ensures.1

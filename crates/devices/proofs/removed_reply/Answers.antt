@@ -1,5 +1,4 @@
 -- `devices::removed_reply` meets its contract.
-use Prim.Native.Nat.{◌-◌}
 use Rattle.devices.proofs.Walk.{removed_written}
 use borrow.Author.Rules.{rules}
 use Rattle.devices.proofs.removed_reply.Goals as goal

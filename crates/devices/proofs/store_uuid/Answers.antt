@@ -1,5 +1,4 @@
 -- `devices::store_uuid` meets its contract.
-use Prim.Native.Nat.{◌-◌}
 use Rattle.devices.proofs.Uuids.{hints_stored, store_answers, store_writes}
 use borrow.Author.Rules.{rules}
 use Rattle.devices.proofs.store_uuid.Goals as goal

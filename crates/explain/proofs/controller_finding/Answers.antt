@@ -1,41 +1,94 @@
--- `explain::controller_finding` meets its contract: the group that the code is of.
-use mathlib.Core.Path.{sym, ◌∙◌}
-use Rattle.dispatch.proofs.Bridge.{information_left}
+-- `explain::controller_finding` meets its contract: each command has its code, and the code its rule.
+use mathlib.Core.Path.{ap, sym}
 use borrow.Author.Rules.{rules}
+use Rattle.model.specs.declared.Settings.{Settings}
+use Rattle.model.specs.State.{settings_of}
+use Rattle.model.specs.Rules.{set_bredr, set_connectable, set_discoverable, set_low_energy, set_powered, set_static_address}
+use Rattle.model.specs.Immediate.{load_keys, link_key_list, long_term_key_list, identity_key_list}
+use Rattle.model.specs.Immediate.{add_advertising, add_device, add_uuid, block_device, read_information, remove_advertising, remove_device, remove_uuid, set_bondable, set_local_name, unblock_device, unpair_device}
+use Rattle.dispatch.specs.Commands.{controller_code}
+use Rattle.dispatch.proofs.Bridge.{rule_04, rule_05, rule_06, rule_07, rule_09, rule_0D, rule_0F, rule_10, rule_11, rule_12, rule_13, rule_1B, rule_26, rule_27, rule_2A, rule_2B, rule_30, rule_33, rule_34, rule_3E, rule_3F}
+use Rattle.explain.proofs.Routes.{arm_immediate, arm_settings, powered_is}
 use Rattle.explain.proofs.controller_finding.Goals as goal
 
-pub settings_finding-requires : goal.settings_finding-requires
-settings_finding-requires c = (search rules, sym c.is_settings.ensures ∙ c.if-is_settings.true)
+pub unpair_device-requires : goal.unpair_device-requires
+unpair_device-requires c = (c.requires, powered_is _ _ c.settings_at.ensures)
 
-pub returns-then-is_settings : goal.returns-then-is_settings
-returns-then-is_settings c = c.settings_finding.ensures
+pub returns-in-ReadInformation : goal.returns-in-ReadInformation
+returns-in-ReadInformation c = arm_immediate _ _ _ 4 _ _ (ap controller_code c.in-ReadInformation.is) read_information rule_04 c.requires (c.read_information.ensures _)
 
-pub keys_finding-requires : goal.keys_finding-requires
-keys_finding-requires c = (search rules, sym c.is_keys.ensures ∙ c.if-is_keys.true)
+pub returns-in-SetPowered : goal.returns-in-SetPowered
+returns-in-SetPowered c =
+    arm_settings _ _ _ 5 _ _ (ap controller_code c.in-SetPowered.is) set_powered rule_05 c.requires _ _ c.settings_at.ensures c.busy_at-busy.ensures
+    c.set_powered.ensures
 
-pub returns-then-is_keys : goal.returns-then-is_keys
-returns-then-is_keys c = c.keys_finding.ensures
+pub returns-in-SetDiscoverable : goal.returns-in-SetDiscoverable
+returns-in-SetDiscoverable c =
+    arm_settings _ _ _ 6 _ _ (ap controller_code c.in-SetDiscoverable.is) set_discoverable rule_06 c.requires _ _ c.settings_at.ensures c.busy_at-busy.ensures
+    c.set_discoverable.ensures
 
-pub devices_finding-requires : goal.devices_finding-requires
-devices_finding-requires c = (search rules, sym c.is_devices.ensures ∙ c.if-is_devices.true)
+pub returns-in-SetConnectable : goal.returns-in-SetConnectable
+returns-in-SetConnectable c =
+    arm_settings _ _ _ 7 _ _ (ap controller_code c.in-SetConnectable.is) set_connectable rule_07 c.requires _ _ c.settings_at.ensures c.busy_at-busy.ensures
+    c.set_connectable.ensures
 
-pub returns-then-is_devices : goal.returns-then-is_devices
-returns-then-is_devices c = c.devices_finding.ensures
+pub returns-in-SetBondable : goal.returns-in-SetBondable
+returns-in-SetBondable c = arm_immediate _ _ _ 9 _ _ (ap controller_code c.in-SetBondable.is) set_bondable rule_09 c.requires (c.set_bondable.ensures _)
 
-pub advertising_finding-requires : goal.advertising_finding-requires
-advertising_finding-requires c = (search rules, sym c.is_advertising.ensures ∙ c.if-is_advertising.true)
+pub returns-in-SetLowEnergy : goal.returns-in-SetLowEnergy
+returns-in-SetLowEnergy c =
+    arm_settings _ _ _ 13 _ _ (ap controller_code c.in-SetLowEnergy.is) set_low_energy rule_0D c.requires _ _ c.settings_at.ensures c.busy_at-busy.ensures
+    c.set_low_energy.ensures
 
-pub returns-then-is_advertising : goal.returns-then-is_advertising
-returns-then-is_advertising c = c.advertising_finding.ensures
+pub returns-in-SetLocalName : goal.returns-in-SetLocalName
+returns-in-SetLocalName c = arm_immediate _ _ _ 15 _ _ (ap controller_code c.in-SetLocalName.is) set_local_name rule_0F c.requires (c.set_local_name.ensures _)
 
-pub information_finding-requires : goal.information_finding-requires
-information_finding-requires c = (
-  search rules,
-  information_left _ c.requires.1
-      (sym c.is_settings.ensures ∙ c.if-is_settings.false)
-      (sym c.is_keys.ensures ∙ c.if-is_keys.false)
-      (sym c.is_devices.ensures ∙ c.if-is_devices.false) (sym c.is_advertising.ensures ∙ c.if-is_advertising.false),
-)
+pub returns-in-AddUuid : goal.returns-in-AddUuid
+returns-in-AddUuid c = arm_immediate _ _ _ 16 _ _ (ap controller_code c.in-AddUuid.is) add_uuid rule_10 c.requires c.add_uuid.ensures
 
-pub returns : goal.returns
-returns c = c.information_finding.ensures
+pub returns-in-RemoveUuid : goal.returns-in-RemoveUuid
+returns-in-RemoveUuid c = arm_immediate _ _ _ 17 _ _ (ap controller_code c.in-RemoveUuid.is) remove_uuid rule_11 c.requires c.remove_uuid.ensures
+
+pub returns-in-LoadLinkKeys : goal.returns-in-LoadLinkKeys
+unfolding settings_of
+returns-in-LoadLinkKeys c = arm_immediate _ _ _ 18 _ _ (ap controller_code c.in-LoadLinkKeys.is) (load_keys link_key_list) rule_12 c.requires (c.load_link_keys.ensures _ (sym (ap (λ (m : Settings). m.radio.hardware) c.settings_at.ensures)))
+
+pub returns-in-LoadLongTermKeys : goal.returns-in-LoadLongTermKeys
+unfolding settings_of
+returns-in-LoadLongTermKeys c = arm_immediate _ _ _ 19 _ _ (ap controller_code c.in-LoadLongTermKeys.is) (load_keys long_term_key_list) rule_13 c.requires (c.load_long_term_keys.ensures _ (sym (ap (λ (m : Settings). m.radio.hardware) c.settings_at.ensures)))
+
+pub returns-in-UnpairDevice : goal.returns-in-UnpairDevice
+returns-in-UnpairDevice c = arm_immediate _ _ _ 27 _ _ (ap controller_code c.in-UnpairDevice.is) unpair_device rule_1B c.requires c.unpair_device.ensures
+
+pub returns-in-BlockDevice : goal.returns-in-BlockDevice
+returns-in-BlockDevice c = arm_immediate _ _ _ 38 _ _ (ap controller_code c.in-BlockDevice.is) block_device rule_26 c.requires c.block_device.ensures
+
+pub returns-in-UnblockDevice : goal.returns-in-UnblockDevice
+returns-in-UnblockDevice c = arm_immediate _ _ _ 39 _ _ (ap controller_code c.in-UnblockDevice.is) unblock_device rule_27 c.requires c.unblock_device.ensures
+
+pub returns-in-SetBredr : goal.returns-in-SetBredr
+returns-in-SetBredr c =
+    arm_settings _ _ _ 42 _ _ (ap controller_code c.in-SetBredr.is) set_bredr rule_2A c.requires _ _ c.settings_at.ensures c.busy_at-busy.ensures
+    c.set_bredr.ensures
+
+pub returns-in-SetStaticAddress : goal.returns-in-SetStaticAddress
+returns-in-SetStaticAddress c =
+    arm_settings _ _ _ 43 _ _ (ap controller_code c.in-SetStaticAddress.is) set_static_address rule_2B c.requires _ _ c.settings_at.ensures c.busy_at-busy.ensures
+    c.set_static_address.ensures
+
+pub returns-in-LoadIdentityKeys : goal.returns-in-LoadIdentityKeys
+unfolding settings_of
+returns-in-LoadIdentityKeys c = arm_immediate _ _ _ 48 _ _ (ap controller_code c.in-LoadIdentityKeys.is) (load_keys identity_key_list) rule_30 c.requires (c.load_identity_keys.ensures _ (sym (ap (λ (m : Settings). m.radio.hardware) c.settings_at.ensures)))
+
+pub returns-in-AddDevice : goal.returns-in-AddDevice
+returns-in-AddDevice c = arm_immediate _ _ _ 51 _ _ (ap controller_code c.in-AddDevice.is) add_device rule_33 c.requires c.add_device.ensures
+
+pub returns-in-RemoveDevice : goal.returns-in-RemoveDevice
+returns-in-RemoveDevice c = arm_immediate _ _ _ 52 _ _ (ap controller_code c.in-RemoveDevice.is) remove_device rule_34 c.requires c.remove_device.ensures
+
+pub returns-in-AddAdvertising : goal.returns-in-AddAdvertising
+unfolding settings_of
+returns-in-AddAdvertising c = arm_immediate _ _ _ 62 _ _ (ap controller_code c.in-AddAdvertising.is) add_advertising rule_3E c.requires (c.add_advertising.ensures _ (sym (ap (λ (m : Settings). m.radio) c.settings_at.ensures)))
+
+pub returns-in-RemoveAdvertising : goal.returns-in-RemoveAdvertising
+returns-in-RemoveAdvertising c = arm_immediate _ _ _ 63 _ _ (ap controller_code c.in-RemoveAdvertising.is) remove_advertising rule_3F c.requires (c.remove_advertising.ensures _ (sym c.schedule_at.ensures))

@@ -1,11 +1,6 @@
-use native.Mathlib.Omega.{arith}
-use borrow.Author.Tests.{not-false, not-true}
-use Rattle.faults.proofs.Records.{Walk, walk_ends, walk_first, walk_goes, walk_here, walk_stops}
-use borrow.Author.Rules.{rules}
+-- What is wrong from the record reached on is what is wrong in all.
+use Rattle.faults.proofs.Records.{Rest}
 use Rattle.faults.proofs.in_records.Given as goal
 
-abbrev pub invariant-loop-left : goal.invariant-loop-left
-invariant-loop-left l = Walk l.k l.ps l.from l.n l.size l.at l.left l.j
-
-abbrev pub decreases-loop-left : goal.decreases-loop-left
-decreases-loop-left l = l.left
+abbrev pub invariant-loop-j : goal.invariant-loop-j
+invariant-loop-j l = Rest l.k l.ps l.from l.n l.j

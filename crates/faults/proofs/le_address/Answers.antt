@@ -1,20 +1,9 @@
 -- `faults::le_address` meets its contract: its checks are the model's, one by one.
-use mathlib.Core.Path.{◌∙◌}
-use mathlib.Core.List.{[], ◌∷◌}
-use Rattle.model.specs.declared.Reason.TheVariants.{AddressNotStaticRandom, AddressTypeNotLe}
-use Rattle.why.proofs.Orders.{judged}
-use Rattle.faults.proofs.Records.{address_is, refused_in}
-use borrow.Author.Rules.{rules}
+use native.Mathlib.Omega.{arith}
+use Rattle.why.specs.Findings.{and_then, first_wrong}
+use Rattle.faults.proofs.Records.{address_is}
 use Rattle.faults.proofs.le_address.Goals as goal
 
-pub returns : goal.returns
-returns c =
-    c.check_in.ensures
-    ∙ rw (
-      c.check_in-f.ensures,
-      c.both-clash.ensures,
-      c.either-le.ensures,
-      c.static_random-fixed.ensures,
-      address_is _ _ _,
-    )
-    (judged (refused_in _ _ _ AddressTypeNotLe ∷ refused_in _ _ _ AddressNotStaticRandom ∷ []))
+pub returns-in_err-check_in : goal.returns-in_err-check_in
+unfolding first_wrong and_then
+returns-in_err-check_in c = rw (address_is _ _ _) (grind arith)

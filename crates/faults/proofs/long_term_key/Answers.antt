@@ -1,20 +1,20 @@
 -- `faults::long_term_key` meets its contract: the address's checks, then three more.
-use mathlib.Core.Path.{◌∙◌}
-use mathlib.Core.List.{[], ◌∷◌}
-use Rattle.model.specs.declared.Reason.TheVariants.{KeySizeNot7To16, KeyTypeAbove4, MasterAbove1}
-use Rattle.why.proofs.Orders.{judged_from}
-use Rattle.faults.proofs.Records.{long_term_is, refused_in}
-use borrow.Author.Rules.{rules}
+use native.Mathlib.Omega.{arith}
+use Rattle.std.proofs.Common.{rules, ◌≡◌, ◌+◌, ◌||◌, get_or, ltb}
+use Rattle.why.specs.Findings.{and_then, first_wrong}
+use Rattle.faults.proofs.Records.{long_term_is}
 use Rattle.faults.proofs.long_term_key.Goals as goal
 
+pub returns-in_err-check_in : goal.returns-in_err-check_in
+unfolding first_wrong and_then
+returns-in_err-check_in c = rw (long_term_is _ _ _) (grind arith)
+
+pub returns-in_err-check_in-2 : goal.returns-in_err-check_in-2
+unfolding first_wrong and_then
+returns-in_err-check_in-2 c = rw (long_term_is _ _ _) (grind arith)
+
 pub returns : goal.returns
+unfolding first_wrong and_then
 returns c =
-    c.check_in.ensures
-    ∙ rw (
-      c.check_in-f-2.ensures,
-      c.check_in-f.ensures,
-      c.le_address-f.ensures,
-      c.either-unfit.ensures,
-      long_term_is _ _ _,
-    )
-    (judged_from _ (refused_in _ _ _ KeyTypeAbove4 ∷ refused_in _ _ _ MasterAbove1 ∷ refused_in _ _ _ KeySizeNot7To16 ∷ []))
+    let unfit : c.if-size-lt7.check_in ≡ (ltb (get_or c.args.ps.now (c.args.at + 9) 0) 7 || ltb 16 (get_or c.args.ps.now (c.args.at + 9) 0)) = grind arith in
+    rw (long_term_is _ _ _, ← unfit) (search rules)

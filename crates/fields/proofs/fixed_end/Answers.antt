@@ -1,6 +1,5 @@
 -- `fields::fixed_end` meets its contract: behind the name, and then behind the short name.
 use Rattle.fields.proofs.Reach.{end_is, end_name, end_short}
-use borrow.Author.Rules.{rules}
 use Rattle.fields.proofs.fixed_end.Goals as goal
 
 pub name_size-requires : goal.name_size-requires

@@ -1,7 +1,6 @@
 -- `fields::hardware_in` meets its contract: each part is read at its place.
 use mathlib.Core.Path.{◌∙◌}
 use Rattle.fields.proofs.Places.{hardware_from_lem, hardware_from}
-use borrow.Author.Rules.{rules}
 use Rattle.fields.proofs.hardware_in.Goals as goal
 
 pub returns : goal.returns

@@ -2,7 +2,6 @@
 use mathlib.Core.Path.{◌∙◌}
 use Rattle.model.specs.State.{no_timer}
 use Rattle.fields.proofs.Places.{settings_from_lem, settings_from}
-use borrow.Author.Rules.{rules}
 use Rattle.fields.proofs.settings_in.Goals as goal
 
 pub returns : goal.returns

@@ -1,36 +1,23 @@
--- `findings::add_advertising` meets its contract: length, instance, flags, lengths of data, Low Energy, and power.
-use mathlib.Core.Path.{◌∙◌}
-use Rattle.model.specs.Immediate.{add_advertising}
-use Rattle.why.proofs.Orders.{immediate_right}
-use Rattle.model.proofs.Model.Tests.{not-false, not-true}
-use mathlib.Core.Path.{sym}
-use Rattle.findings.proofs.Laws.{short_length, wrong_data}
-use Rattle.model.specs.Immediate.{advertising_checks}
+-- `findings::add_advertising` meets its contract: two lengths, the instance, the flags, the lengths of data, Low Energy, and power.
+use native.Mathlib.Omega.{arith}
+use mathlib.Core.Path.{sym, ◌∙◌}
+use borrow.Author.Tests.{not-false}
+use Rattle.std.proofs.Common.{rules, ◌≡◌, ◌+◌, ◌&&◌, true, leb, eqb, get_or, length}
 use Rattle.model.specs.Octets.{octet}
 use Rattle.model.specs.Reasons.{further, moved}
-use Rattle.octets.specs.Parts.{part}
-use Rattle.why.specs.Findings.{in_packet}
-use borrow.Author.Rules.{rules}
+use Rattle.model.specs.Immediate.{add_advertising, advertising_checks, length_field}
+use Rattle.why.specs.Findings.{and_then, checked, first_wrong, in_packet, why_immediate}
+use Rattle.why.proofs.Orders.{met}
 use Rattle.findings.proofs.add_advertising.Goals as goal
 
-pub returns-then-ps-lt11 : goal.returns-then-ps-lt11
-returns-then-ps-lt11 c = λ k e. short_length k _ c.if-ps-lt11.true
+pub returns-in_err-check_at : goal.returns-in_err-check_at
+unfolding checked why_immediate first_wrong and_then in_packet moved further octet length_field add_advertising advertising_checks
+returns-in_err-check_at c = grind arith
 
-pub returns-then-not-sized : goal.returns-then-not-sized
-returns-then-not-sized c = λ k e. wrong_data k _ c.if-ps-lt11.false (sym c.sized.ensures ∙ not-true _ c.if-not-sized.true-raw)
-
-pub returns : goal.returns
-unfolding in_packet moved further add_advertising advertising_checks octet part
-returns c = λ k e. rw (
-  c.check_later.ensures,
-  c.check_later-f.ensures,
-  c.check_at-f-4.ensures,
-  c.check_at-f-3.ensures,
-  c.check_at-f-2.ensures,
-  c.check_at-f.ensures,
-  c.both-unpowered.ensures,
-  c.u16_at.ensures.0,
-  c.zero_part-unflagged.ensures,
-  c.both-known.ensures,
-  ← e,
-) (immediate_right add_advertising k _ (sym c.sized.ensures ∙ not-false _ c.if-not-sized.false-raw))
+pub returns-in_err-check_at-3 : goal.returns-in_err-check_at-3
+unfolding why_immediate first_wrong and_then checked in_packet moved further octet length_field add_advertising advertising_checks
+returns-in_err-check_at-3 c = λ k e.
+    let fits : (leb 11 (length c.args.ps.now) && eqb (length c.args.ps.now) (11 + get_or c.args.ps.now 9 0 + get_or c.args.ps.now 10 0)) ≡ true =
+    sym c.sized.ensures ∙ not-false _ (met _ _ _ c.in_ok-check_at-2.ensures) in
+    let e : c.if-ps-ge1.check_at ≡ (leb 1 (get_or c.args.ps.now 0 0) && leb (get_or c.args.ps.now 0 0) 5) = grind arith in
+    rw (fits, ← e) (search rules)

@@ -11,4 +11,4 @@ free_slot-requires c =
 
 pub returns : goal.returns
 returns c =
-    filled c.args.state.now _ _ _ (search rules) (search rules) c.table_place-place.ensures _ c.free_slot.ensures.0
+    filled c.args.state.now _ _ _ (search rules) (search rules) c.table_place-place.ensures _ _ c.is_none.ensures c.free_slot.ensures

@@ -1,4 +1,5 @@
 -- `findings::holds_uuid` meets its contract: the record is found if the first that matches is one of the 32 slots.
+use mathlib.Core.Path.{◌∙◌}
 use Rattle.findings.proofs.Laws.{held, inside, uuid_size}
 use borrow.Author.Rules.{rules}
 use Rattle.findings.proofs.holds_uuid.Goals as goal
@@ -13,5 +14,6 @@ find-requires c = (
 
 pub returns : goal.returns
 returns c =
-    held c.args.state.now _ _ _ (search rules) (search rules) c.table_place-place.ensures _
-    c.size_of-size.ensures _ _ c.find.ensures.0
+    c.is_some.ensures
+    ∙ held c.args.state.now _ _ _ (search rules) (search rules) c.table_place-place.ensures _
+    c.size_of-size.ensures _ _ c.find.ensures

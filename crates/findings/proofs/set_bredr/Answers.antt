@@ -1,30 +1,19 @@
 -- `findings::set_bredr` meets its contract: the value, support of both transports, Busy, power, the static address, and Low Energy.
-use Rattle.model.specs.Rules.{on, set_bredr}
-use Rattle.why.proofs.Orders.{radio_right, radio_wrong}
+use native.Mathlib.Omega.{arith}
 use Rattle.model.specs.Octets.{octet}
 use Rattle.model.specs.Reasons.{further, moved}
-use Rattle.why.specs.Findings.{in_packet}
-use borrow.Author.Rules.{rules}
+use Rattle.model.specs.Rules.{on, set_bredr}
+use Rattle.why.specs.Findings.{and_then, first_wrong, in_packet, why_radio}
 use Rattle.findings.proofs.set_bredr.Goals as goal
 
-pub returns-then-ps-ne1 : goal.returns-then-ps-ne1
-unfolding set_bredr
-returns-then-ps-ne1 c = radio_wrong set_bredr _ _ _ c.if-ps-ne1.true
+pub returns-in_err-check_later-3 : goal.returns-in_err-check_later-3
+unfolding why_radio first_wrong and_then in_packet moved further octet on set_bredr
+returns-in_err-check_later-3 c = grind arith
+
+pub returns-in_err-check_later-4 : goal.returns-in_err-check_later-4
+unfolding why_radio first_wrong and_then in_packet moved further octet on set_bredr
+returns-in_err-check_later-4 c = grind arith
 
 pub returns : goal.returns
-unfolding in_packet moved further set_bredr on octet
-returns c = rw (
-  c.check_later.ensures,
-  c.check_later-f-4.ensures,
-  c.check_later-f-3.ensures,
-  c.check_busy-f.ensures,
-  c.check_later-f-2.ensures,
-  c.check_later-f.ensures,
-  c.check_at-f.ensures,
-  c.both-on_static.ensures,
-  c.both-off_powered.ensures,
-  c.all_zero-unset.ensures,
-  c.le_supported-le.ensures,
-  c.bredr_supported-supported.ensures,
-) (radio_right set_bredr _ _ _
-    c.if-ps-ne1.false)
+unfolding why_radio first_wrong and_then in_packet moved further octet on set_bredr
+returns c = grind arith

@@ -9,20 +9,20 @@ use Rattle.hub.proofs.clock.Goals as goal
 
 pub clock-requires : goal.clock-requires
 clock-requires c = (
-  (sym c.well_formed-2.ensures ∙ c.if-well_formed.true),
+  (sym c.well_formed-2.ensures ∙ c.if-not-well_formed.false),
   state_long _
-      (sym c.well_formed-2.ensures ∙ c.if-well_formed.true),
+      (sym c.well_formed-2.ensures ∙ c.if-not-well_formed.false),
   search rules,
 )
 
-pub returns-then-reply-ge-REPLY_BUFFER : goal.returns-then-reply-ge-REPLY_BUFFER
-returns-then-reply-ge-REPLY_BUFFER c =
-    clock_done _ _ _ _ _ _ _ (sym c.well_formed-2.ensures
-    ∙ c.if-well_formed.true)
-    c.if-reply-ge-REPLY_BUFFER.true c.clock.ensures
-
-pub returns-then-well_formed : goal.returns-then-well_formed
-returns-then-well_formed c = clock_no_room _ _ _ _ (sym c.well_formed-2.ensures ∙ c.if-well_formed.true) c.if-reply-ge-REPLY_BUFFER.false
-
 pub returns : goal.returns
-returns c = gives_bad _ _ _ _ (sym c.well_formed-2.ensures ∙ c.if-well_formed.false) refl
+returns c =
+    clock_done _ _ _ _ _ _ _ (sym c.well_formed-2.ensures
+    ∙ c.if-not-well_formed.false)
+    c.if-reply-lt-REPLY_BUFFER.false c.clock.ensures
+
+pub returns-then-reply-lt-REPLY_BUFFER : goal.returns-then-reply-lt-REPLY_BUFFER
+returns-then-reply-lt-REPLY_BUFFER c = clock_no_room _ _ _ _ (sym c.well_formed-2.ensures ∙ c.if-not-well_formed.false) c.if-reply-lt-REPLY_BUFFER.true
+
+pub returns-then-not-well_formed : goal.returns-then-not-well_formed
+returns-then-not-well_formed c = gives_bad _ _ _ _ (sym c.well_formed-2.ensures ∙ c.if-not-well_formed.true) refl

@@ -9,22 +9,22 @@ use Rattle.hub.proofs.command.Goals as goal
 
 pub serve-requires : goal.serve-requires
 serve-requires c = (
-  sym c.well_formed-2.ensures ∙ c.if-well_formed.true,
-  state_long _ (sym c.well_formed-2.ensures ∙ c.if-well_formed.true),
-  sym c.packet_ok.ensures ∙ c.if-packet_ok.true,
+  sym c.well_formed-2.ensures ∙ c.if-not-well_formed.false,
+  state_long _ (sym c.well_formed-2.ensures ∙ c.if-not-well_formed.false),
+  sym c.packet_ok.ensures ∙ c.if-not-packet_ok.false,
   search rules,
 )
 
-pub returns-then-packet_ok : goal.returns-then-packet_ok
-returns-then-packet_ok c = c.serve.ensures
-
-pub returns-then-reply-ge-REPLY_BUFFER : goal.returns-then-reply-ge-REPLY_BUFFER
-returns-then-reply-ge-REPLY_BUFFER c =
-    command_no_packet _ _ _ _ (sym c.well_formed-2.ensures ∙ c.if-well_formed.true)
-    c.if-reply-ge-REPLY_BUFFER.true (sym c.packet_ok.ensures ∙ c.if-packet_ok.false)
-
-pub returns-then-well_formed : goal.returns-then-well_formed
-returns-then-well_formed c = command_no_room _ _ _ _ (sym c.well_formed-2.ensures ∙ c.if-well_formed.true) c.if-reply-ge-REPLY_BUFFER.false
-
 pub returns : goal.returns
-returns c = gives_bad _ _ _ _ (sym c.well_formed-2.ensures ∙ c.if-well_formed.false) refl
+returns c = c.serve.ensures
+
+pub returns-then-not-packet_ok : goal.returns-then-not-packet_ok
+returns-then-not-packet_ok c =
+    command_no_packet _ _ _ _ (sym c.well_formed-2.ensures ∙ c.if-not-well_formed.false)
+    c.if-reply-lt-REPLY_BUFFER.false (sym c.packet_ok.ensures ∙ c.if-not-packet_ok.true)
+
+pub returns-then-reply-lt-REPLY_BUFFER : goal.returns-then-reply-lt-REPLY_BUFFER
+returns-then-reply-lt-REPLY_BUFFER c = command_no_room _ _ _ _ (sym c.well_formed-2.ensures ∙ c.if-not-well_formed.false) c.if-reply-lt-REPLY_BUFFER.true
+
+pub returns-then-not-well_formed : goal.returns-then-not-well_formed
+returns-then-not-well_formed c = gives_bad _ _ _ _ (sym c.well_formed-2.ensures ∙ c.if-not-well_formed.true) refl

@@ -8,11 +8,11 @@ use Rattle.hub.proofs.hub_load.Goals as goal
 pub pack_offset-requires : goal.pack_offset-requires
 pack_offset-requires c =
     let a = c.args in
-    let w = slice_bytes a.image.now (λ k. omega (arith, c.shared_slice_known-1.given k)) in
-    let e = c.load-a.ensures in
-    count_loaded a.state.now a.image.now c.load-a.result w e.1 e.2
+    let w = slice_bytes a.image.now (λ k. omega (arith, c.type_inv.image k)) in
+    let e = c.load.ensures in
+    count_loaded a.state.now a.image.now c.load.result w e.1 e.2
 
 pub returns : goal.returns
 returns c =
-    let e = c.load-a.ensures in
-    returns_loaded _ c.load-a.result _ _ e.0 e.1 e.2 e.3 c.pack_offset.ensures
+    let e = c.load.ensures in
+    returns_loaded _ c.load.result _ _ e.0 e.1 e.2 e.3 c.pack_offset.ensures

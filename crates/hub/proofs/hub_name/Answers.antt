@@ -5,7 +5,7 @@ use Rattle.hub.proofs.Bridge.{name_count}
 use Rattle.hub.proofs.hub_name.Goals as goal
 
 pub pack-requires : goal.pack-requires
-pack-requires c = name_count _ _ _ _ _ _ _ _ c.name-a.ensures
+pack-requires c = name_count _ _ _ _ _ _ _ _ c.name.ensures
 
 pub returns : goal.returns
-returns c = returns_packed _ _ _ _ _ _ c.name-a.ensures c.pack.ensures
+returns c = returns_packed _ _ _ _ _ _ c.name.ensures c.pack.ensures

@@ -5,7 +5,7 @@ use Rattle.hub.proofs.Bridge.{on_air_count}
 use Rattle.hub.proofs.hub_on_air.Goals as goal
 
 pub pack-requires : goal.pack-requires
-pack-requires c = on_air_count _ _ _ _ _ _ _ c.on_air-a.ensures
+pack-requires c = on_air_count _ _ _ _ _ _ _ c.on_air.ensures
 
 pub returns : goal.returns
-returns c = returns_packed _ _ _ _ _ _ c.on_air-a.ensures c.pack.ensures
+returns c = returns_packed _ _ _ _ _ _ c.on_air.ensures c.pack.ensures

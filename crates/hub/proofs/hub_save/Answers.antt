@@ -6,8 +6,8 @@ use Rattle.hub.proofs.Entries.{count_call, returns_packed}
 use Rattle.hub.proofs.hub_save.Goals as goal
 
 pub pack-requires : goal.pack-requires
-pack-requires c = count_call _ _ _ _ _ _ c.save-a.ensures
+pack-requires c = count_call _ _ _ _ _ _ c.save.ensures
 
 pub returns : goal.returns
 unfolding hub_save
-returns c = returns_packed _ _ _ _ _ _ c.save-a.ensures c.pack.ensures
+returns c = returns_packed _ _ _ _ _ _ c.save.ensures c.pack.ensures

@@ -7,8 +7,8 @@ use Rattle.hub.proofs.Entries.{count_call, returns_packed}
 use Rattle.hub.proofs.hub_unplug.Goals as goal
 
 pub pack-requires : goal.pack-requires
-pack-requires c = count_call _ _ _ _ _ _ c.unplug-a.ensures
+pack-requires c = count_call _ _ _ _ _ _ c.unplug.ensures
 
 pub returns : goal.returns
 unfolding hub_unplug
-returns c = returns_packed _ _ _ _ _ _ c.unplug-a.ensures c.pack.ensures
+returns c = returns_packed _ _ _ _ _ _ c.unplug.ensures c.pack.ensures

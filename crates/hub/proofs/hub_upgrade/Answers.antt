@@ -11,9 +11,9 @@ use Rattle.hub.proofs.hub_upgrade.Goals as goal
 pub pack_offset-requires : goal.pack_offset-requires
 pack_offset-requires c =
     let a = c.args in
-    let w = slice_bytes a.image.now (λ k. omega (arith, c.shared_slice_known-1.given k)) in
+    let w = slice_bytes a.image.now (λ k. omega (arith, c.type_inv.image k)) in
     count_moved _ _ _ _ (no_move_longer a.image.now (length a.out.now) w).0 (move_offsets_fit a.image.now (length a.out.now) w).0
-    c.upgrade-a.ensures
+    c.upgrade.ensures
 
 pub returns : goal.returns
-returns c = returns_moved _ _ _ _ _ c.upgrade-a.ensures c.pack_offset.ensures
+returns c = returns_moved _ _ _ _ _ c.upgrade.ensures c.pack_offset.ensures

@@ -7,8 +7,8 @@ use Rattle.hub.specs.Entries.{packed}
 use Rattle.hub.proofs.pack.Goals as goal
 
 pub overflow_add-result : goal.overflow_add-result
-overflow_add-result c = omega (arith, c.number.ensures, c.count-n.ensures, number_small c.args.a)
+overflow_add-result c = omega (arith, c.number.ensures, c.count.ensures, number_small c.args.a)
 
 pub returns : goal.returns
 unfolding packed
-returns c = rw (c.number.ensures, c.count-n.ensures)
+returns c = rw (c.number.ensures, c.count.ensures)

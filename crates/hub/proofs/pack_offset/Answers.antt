@@ -7,4 +7,4 @@ use Rattle.hub.proofs.pack_offset.Goals as goal
 pub overflow_add-result : goal.overflow_add-result
 overflow_add-result c =
     let b = c in
-    omega (arith, packed_most b.args.a b.requires.0, b.requires.1, c.pack.ensures, c.offset-at.ensures)
+    omega (arith, packed_most b.args.a b.requires.0, b.requires.1, c.pack.ensures, c.offset.ensures)

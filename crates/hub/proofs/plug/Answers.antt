@@ -10,21 +10,21 @@ use Rattle.hub.proofs.plug.Goals as goal
 
 pub plug-requires : goal.plug-requires
 plug-requires c = (
-  (sym c.well_formed-2.ensures ∙ c.if-well_formed.true),
+  (sym c.well_formed-2.ensures ∙ c.if-not-well_formed.false),
   state_long _
-      (sym c.well_formed-2.ensures ∙ c.if-well_formed.true),
+      (sym c.well_formed-2.ensures ∙ c.if-not-well_formed.false),
   search rules,
 )
 
-pub returns-then-reply-ge-REPLY_BUFFER : goal.returns-then-reply-ge-REPLY_BUFFER
-unfolding hardware_given
-returns-then-reply-ge-REPLY_BUFFER c =
-    plug_done _ _ _ _ _ _ _ _ (sym c.well_formed-2.ensures
-    ∙ c.if-well_formed.true)
-    c.if-reply-ge-REPLY_BUFFER.true c.plug.ensures
-
-pub returns-then-well_formed : goal.returns-then-well_formed
-returns-then-well_formed c = plug_no_room _ _ _ _ _ (sym c.well_formed-2.ensures ∙ c.if-well_formed.true) c.if-reply-ge-REPLY_BUFFER.false
-
 pub returns : goal.returns
-returns c = gives_bad _ _ _ _ (sym c.well_formed-2.ensures ∙ c.if-well_formed.false) refl
+unfolding hardware_given
+returns c =
+    plug_done _ _ _ _ _ _ _ _ (sym c.well_formed-2.ensures
+    ∙ c.if-not-well_formed.false)
+    c.if-reply-lt-REPLY_BUFFER.false c.plug.ensures
+
+pub returns-then-reply-lt-REPLY_BUFFER : goal.returns-then-reply-lt-REPLY_BUFFER
+returns-then-reply-lt-REPLY_BUFFER c = plug_no_room _ _ _ _ _ (sym c.well_formed-2.ensures ∙ c.if-not-well_formed.false) c.if-reply-lt-REPLY_BUFFER.true
+
+pub returns-then-not-well_formed : goal.returns-then-not-well_formed
+returns-then-not-well_formed c = gives_bad _ _ _ _ (sym c.well_formed-2.ensures ∙ c.if-not-well_formed.true) refl

@@ -7,13 +7,13 @@ use Rattle.hub.proofs.Lumps.{takes_bad, takes_small}
 use Rattle.hub.proofs.stream.Goals as goal
 
 pub take_in-requires : goal.take_in-requires
-take_in-requires c = (sym c.well_formed-2.ensures ∙ c.if-well_formed.true, state_long _ (sym c.well_formed-2.ensures ∙ c.if-well_formed.true), search rules)
-
-pub returns-then-reply-ge-REPLY_BUFFER : goal.returns-then-reply-ge-REPLY_BUFFER
-returns-then-reply-ge-REPLY_BUFFER c = c.take_in.ensures
-
-pub returns-then-well_formed : goal.returns-then-well_formed
-returns-then-well_formed c = takes_small _ _ _ _ (sym c.well_formed-2.ensures ∙ c.if-well_formed.true) c.if-reply-ge-REPLY_BUFFER.false
+take_in-requires c = (sym c.well_formed-2.ensures ∙ c.if-not-well_formed.false, state_long _ (sym c.well_formed-2.ensures ∙ c.if-not-well_formed.false), search rules)
 
 pub returns : goal.returns
-returns c = takes_bad _ _ _ _ (sym c.well_formed-2.ensures ∙ c.if-well_formed.false)
+returns c = c.take_in.ensures
+
+pub returns-then-reply-lt-REPLY_BUFFER : goal.returns-then-reply-lt-REPLY_BUFFER
+returns-then-reply-lt-REPLY_BUFFER c = rw c.untaken-then-reply-lt-REPLY_BUFFER.ensures (takes_small _ _ _ _ (sym c.well_formed-2.ensures ∙ c.if-not-well_formed.false) c.if-reply-lt-REPLY_BUFFER.true)
+
+pub returns-then-not-well_formed : goal.returns-then-not-well_formed
+returns-then-not-well_formed c = rw c.untaken.ensures (takes_bad _ _ _ _ (sym c.well_formed-2.ensures ∙ c.if-not-well_formed.true))

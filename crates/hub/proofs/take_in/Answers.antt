@@ -18,7 +18,7 @@ grow-requires c =
 pub returns-then-lump-left : goal.returns-then-lump-left
 returns-then-lump-left c =
     let p = c.requires in
-    takes_all_lem _ p.0 _ p.2 _ (slice_bytes c.args.lump.now (λ k. omega (arith, c.shared_slice_known-1.given k))) _ c.length_said-said.ensures.0 _ c.taken.ensures.0 _ _
+    takes_all_lem _ p.0 _ p.2 _ (slice_bytes c.args.lump.now (λ k. omega (arith, c.type_inv.lump k))) _ c.length_said-said.ensures.0 _ c.taken.ensures.0 _ _
     c.if-lump-left.true c.grow.ensures
 
 pub slice_bounds-serve-end : goal.slice_bounds-serve-end
@@ -38,7 +38,7 @@ serve-answer-requires c =
 pub returns-then-left-said : goal.returns-then-left-said
 returns-then-left-said c =
     let p = c.requires in
-    takes_whole _ p.0 _ p.2 _ (slice_bytes c.args.lump.now (λ k. omega (arith, c.shared_slice_known-1.given k))) _ c.length_said-said.ensures.0 _ c.taken.ensures.0 _ _ _ _
+    takes_whole _ p.0 _ p.2 _ (slice_bytes c.args.lump.now (λ k. omega (arith, c.type_inv.lump k))) _ c.length_said-said.ensures.0 _ c.taken.ensures.0 _ _ _ _
     c.if-lump-left.false c.if-left-said.true c.serve-answer.ensures
 
 pub slice_bounds-finish-end : goal.slice_bounds-finish-end
@@ -55,5 +55,5 @@ finish-answer-requires c =
 pub returns : goal.returns
 returns c =
     let p = c.requires in
-    takes_last _ p.0 _ p.2 _ (slice_bytes c.args.lump.now (λ k. omega (arith, c.shared_slice_known-1.given k))) _ c.length_said-said.ensures.0 _ c.taken.ensures.0 _ _ _ _ _
+    takes_last _ p.0 _ p.2 _ (slice_bytes c.args.lump.now (λ k. omega (arith, c.type_inv.lump k))) _ c.length_said-said.ensures.0 _ c.taken.ensures.0 _ _ _ _ _
     c.if-lump-left.false refl c.finish-answer.ensures

@@ -1,7 +1,6 @@
 -- `image::save_controller` meets its contract: the fixed part, the names and the tables, one behind the other.
 use native.Mathlib.Omega.{arith}
 use Rattle.image.proofs.SaveLaws.{controller_written, names_by}
-use borrow.Author.Rules.{rules}
 use Rattle.image.proofs.save_controller.Goals as goal
 
 pub save_tables-requires : goal.save_tables-requires

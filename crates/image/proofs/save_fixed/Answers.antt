@@ -1,6 +1,5 @@
 -- `image::save_fixed` meets its contract: four writes, each of a part of the fixed image.
 use mathlib.Core.Path.{◌≡◌, sym, ◌∙◌}
-use Prim.Native.Nat.{◌-◌}
 use native.Mathlib.Omega.{arith}
 use lib.ListN.{length}
 use Rattle.image.proofs.SaveLaws.{fixed_written}
@@ -25,4 +24,4 @@ returns c =
     c.copy_into.ensures c.copy_into-2.ensures
     (c.copy_into-3.ensures
     ∙ rw
-    c.numbers-n.ensures) c.put8.ensures
+    c.numbers.ensures) c.put8.ensures

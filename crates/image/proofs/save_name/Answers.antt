@@ -1,6 +1,5 @@
 -- `image::save_name` meets its contract: the length of the used part, then that part, where it lies in the state.
 use Rattle.image.proofs.SaveLaws.{name_written}
-use borrow.Author.Rules.{rules}
 use Rattle.image.proofs.save_name.Goals as goal
 
 pub returns : goal.returns

@@ -1,6 +1,5 @@
 -- `information::list_index` meets its contract.
 use mathlib.Core.Path.{sym, ◌∙◌}
-use Prim.Native.Nat.{◌-◌}
 use native.Mathlib.Omega.{arith}
 use Rattle.information.proofs.General.{listed_put, listed_two, listed_none, listed_zero}
 use borrow.Author.Rules.{rules}

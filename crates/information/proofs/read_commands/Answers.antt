@@ -1,5 +1,4 @@
 -- `information::read_commands` meets its contract.
-use Prim.Native.Nat.{◌-◌}
 use Rattle.information.proofs.General.{commands_is}
 use Rattle.model.specs.Commands.{read_commands}
 use borrow.Author.Rules.{rules}

@@ -1,6 +1,5 @@
 -- `information::read_indexes` meets its contract.
 use mathlib.Core.Path.{refl}
-use Prim.Native.Nat.{◌-◌}
 use native.Mathlib.Omega.{arith}
 use Rattle.information.proofs.General.{front_is, front_long}
 use Rattle.model.specs.Commands.{read_indexes}

@@ -1,5 +1,4 @@
 -- `information::read_version` meets its contract.
-use Prim.Native.Nat.{◌-◌}
 use Rattle.information.proofs.General.{version_is}
 use Rattle.model.specs.Commands.{read_version}
 use borrow.Author.Rules.{rules}

@@ -1,6 +1,5 @@
 -- `information::refused_look_up` meets its contract: the answer's number, and nothing told.
 use Rattle.information.proofs.LookUp.{refused_told}
-use borrow.Author.Rules.{rules}
 use Rattle.information.proofs.refused_look_up.Goals as goal
 
 pub returns : goal.returns

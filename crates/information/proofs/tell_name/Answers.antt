@@ -1,10 +1,10 @@
 -- `information::tell_name` meets its contract: a copy of the part that `used_name` hands out.
 use mathlib.Core.Path.{sym, ◌∙◌}
-use borrow.Author.Rules.{rules}
 use Rattle.model.proofs.Model.Demand3.{state_long}
 use Rattle.layout.proofs.Reading.{present_below}
 use Rattle.information.proofs.Name.{told_absent, told_neither, told_used}
 use Rattle.information.proofs.tell_name.Goals as goal
+use Rattle.information.proofs.tell_name.Goals.{else-present-via-then-present+else-which-lt2, else-present-via-else-present}
 
 pub present-requires : goal.present-requires
 present-requires c = state_long _ c.requires.0
@@ -17,16 +17,11 @@ used_name-name-requires c = (
 
 pub returns-then-which-lt2 : goal.returns-then-which-lt2
 returns-then-which-lt2 c =
-    let n = c in
-    let p = n in
-    let s = p in
-    told_used _ _ _ _ _ _ s.requires.0 (sym p.present.ensures ∙ n.if-present.true) n.if-which-lt2.true s.requires.1 n.used_name-name.ensures
+    told_used _ _ _ _ _ _ c.requires.0 (sym c.present.ensures ∙ c.if-present.true) c.if-which-lt2.true c.requires.1 c.used_name-name.ensures
     c.copy_into.ensures
 
-pub returns-else-which-lt2 : goal.returns-else-which-lt2
-returns-else-which-lt2 c =
-    let p = c in
-    told_neither _ _ _ _ p.requires.0 (sym p.present.ensures ∙ c.if-present.true) c.if-which-lt2.false
-
-pub returns-else-present : goal.returns-else-present
-returns-else-present c = told_absent _ _ _ _ c.requires.0 (sym c.present.ensures ∙ c.if-present.false)
+pub returns : goal.returns
+returns c = elim c.else-present.branch [
+  | else-present-via-then-present+else-which-lt2 w ↦ told_neither _ _ _ _ c.requires.0 (sym c.present.ensures ∙ w.if-present.true) w.if-which-lt2.false
+  | else-present-via-else-present w ↦ told_absent _ _ _ _ c.requires.0 (sym c.present.ensures ∙ w.if-present.false)
+]

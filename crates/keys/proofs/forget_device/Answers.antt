@@ -1,6 +1,5 @@
 -- `keys::forget_device` meets its contract. The three writes together are the model's `unpaired`.
 use Rattle.keys.proofs.Unpairs.{three_gone}
-use borrow.Author.Rules.{rules}
 use Rattle.keys.proofs.forget_device.Goals as goal
 
 pub returns : goal.returns

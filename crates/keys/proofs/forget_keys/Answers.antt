@@ -1,7 +1,6 @@
 -- `keys::forget_keys` meets its contract. After the write the state is well formed again and the index present.
 use Rattle.keys.proofs.Loads.{load_room}
 use Rattle.keys.proofs.Unpairs.{seven_fit, table_canonical, keys_gone}
-use borrow.Author.Rules.{rules}
 use Rattle.keys.proofs.forget_keys.Goals as goal
 
 pub release_matching-requires : goal.release_matching-requires

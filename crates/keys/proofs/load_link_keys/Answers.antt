@@ -9,20 +9,20 @@ use Rattle.keys.proofs.load_link_keys.Goals as goal
 
 pub bounds-ps-0 : goal.bounds-ps-0
 bounds-ps-0 c =
-    link_first c.args.ps.now _ c.list_fits.ensures c.if-list_fits.true
+    link_first c.args.ps.now _ c.list_fits.ensures c.if-not-list_fits.false
 
 pub load_list-requires : goal.load_list-requires
 load_list-requires c =
-    (search rules, search rules, link_list _ _ c.list_fits.ensures c.if-list_fits.true)
-
-pub returns-then-list_fits : goal.returns-then-list_fits
-unfolding key_list link_key_list link_key_rule
-returns-then-list_fits c = c.load_list.ensures
+    (search rules, search rules, link_list _ _ c.list_fits.ensures c.if-not-list_fits.false)
 
 pub returns : goal.returns
 unfolding key_list link_key_list link_key_rule
-returns c =
+returns c = c.load_list.ensures
+
+pub returns-then-not-list_fits : goal.returns-then-not-list_fits
+unfolding key_list link_key_list link_key_rule
+returns-then-not-list_fits c =
     list_wrong _ _ _ 1 1 25 _ _ _ _ _ c.requires.0
     c.requires.1 refl refl
-    c.list_fits.ensures c.if-list_fits.false
+    c.list_fits.ensures c.if-not-list_fits.true
     c.refuse.ensures.0 c.refuse.ensures.1

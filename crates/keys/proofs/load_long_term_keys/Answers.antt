@@ -8,16 +8,16 @@ use borrow.Author.Rules.{rules}
 use Rattle.keys.proofs.load_long_term_keys.Goals as goal
 
 pub load_list-requires : goal.load_list-requires
-load_list-requires c = (search rules, search rules, long_term_list _ _ c.list_fits.ensures c.if-list_fits.true)
-
-pub returns-then-list_fits : goal.returns-then-list_fits
-unfolding key_list long_term_key_list long_term_key_rule
-returns-then-list_fits c = c.load_list.ensures
+load_list-requires c = (search rules, search rules, long_term_list _ _ c.list_fits.ensures c.if-not-list_fits.false)
 
 pub returns : goal.returns
 unfolding key_list long_term_key_list long_term_key_rule
-returns c =
+returns c = c.load_list.ensures
+
+pub returns-then-not-list_fits : goal.returns-then-not-list_fits
+unfolding key_list long_term_key_list long_term_key_rule
+returns-then-not-list_fits c =
     list_wrong _ _ _ 2 0 36 _ _ _ _ _ c.requires.0
     c.requires.1 refl refl
-    c.list_fits.ensures c.if-list_fits.false
+    c.list_fits.ensures c.if-not-list_fits.true
     c.refuse.ensures.0 c.refuse.ensures.1

@@ -1,12 +1,6 @@
 -- `layout::adv_data` meets its contract. The data lie where the instance has them.
-use mathlib.Core.Path.{◌≡◌, refl, sym, ap, ◌∙◌, subst}
-use mathlib.Core.List.{List, [], ◌∷◌, ◌++◌}
-use mathlib.Core.Logic.{⊎_elim}
-use Prim.Native.Nat.{ℕ, zero, suc, ◌+◌, ◌-◌, ◌*◌, ◌≤◌, ◌<◌}
-use native.Mathlib.Omega.{arith}
-use lib.ListN.{length, take, drop, get_or, set, length-set}
+use mathlib.Core.Path.{◌∙◌}
 use Rattle.layout.proofs.Advertising.{adv_there}
-use borrow.Author.Rules.{rules}
 use Rattle.layout.proofs.adv_data.Goals as goal
 
 -- src/lib.rt:425:5

@@ -1,21 +1,17 @@
 -- `layout::clear_slots` meets its contract. Five instances, each at its place.
-use mathlib.Core.Path.{◌≡◌, refl, sym, ap, ◌∙◌, subst}
-use mathlib.Core.List.{List, [], ◌∷◌, ◌++◌}
-use mathlib.Core.Logic.{⊎_elim}
-use Prim.Native.Nat.{ℕ, zero, suc, ◌+◌, ◌-◌, ◌*◌, ◌≤◌, ◌<◌}
-use native.Mathlib.Omega.{arith}
-use lib.ListN.{length, take, drop, get_or, set, length-set}
-use Rattle.layout.proofs.Writes.{slots_cleared}
-use borrow.Author.Rules.{rules}
+use Rattle.std.proofs.Common.{arith, refl, ◌∙◌, add-one}
+use Rattle.std.proofs.lemmas.List.{take_all}
+use Rattle.layout.specs.Advertising.{cleared_slots}
+use Rattle.layout.proofs.Writes.{slot_more}
 use Rattle.layout.proofs.clear_slots.Goals as goal
 
--- src/lib.rt:347:1
+pub loop-k-init : goal.loop-k-init
+unfolding cleared_slots
+loop-k-init c = refl
+
+pub loop-k-preserved : goal.loop-k-preserved
+loop-k-preserved c =
+    c.clear_slot.ensures ∙ rw (c.loop-k.invariant, add-one) (slot_more _ _ _ _ _ (omega arith) (omega arith))
+
 pub returns : goal.returns
-returns c =
-    c.clear_slot-5.ensures
-    ∙ rw (
-      c.clear_slot-4.ensures,
-      c.clear_slot-3.ensures,
-      c.clear_slot-2.ensures,
-      c.clear_slot.ensures,
-    ) (slots_cleared _ _ _ _ (search rules) (search rules))
+returns c = c.loop-k.invariant ∙ rw (take_all c.loop-k.k c.args.before (omega arith), take_all c.loop-k.k c.args.after (omega arith))

@@ -1,7 +1,6 @@
 -- `layout::clock_at` meets its contract. The clock is the number at the start.
 use mathlib.Core.Path.{◌∙◌}
 use Rattle.layout.proofs.Reading.{clock_at}
-use borrow.Author.Rules.{rules}
 use Rattle.layout.proofs.clock_at.Goals as goal
 
 pub returns : goal.returns

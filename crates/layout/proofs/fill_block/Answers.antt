@@ -3,7 +3,6 @@ use mathlib.Core.Path.{◌∙◌}
 use native.Mathlib.Omega.{arith}
 use Rattle.model.proofs.Model.Demand3.{state_long}
 use Rattle.layout.proofs.Filled.{block_filled}
-use borrow.Author.Rules.{rules}
 use Rattle.layout.proofs.fill_block.Goals as goal
 
 pub put8-requires : goal.put8-requires

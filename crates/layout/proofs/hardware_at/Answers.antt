@@ -1,7 +1,6 @@
 -- `layout::hardware_at` meets its contract. Each field stands at its place of the block.
 use mathlib.Core.Path.{◌∙◌}
 use Rattle.layout.proofs.Reading.{hardware_at, hardware_from}
-use borrow.Author.Rules.{rules}
 use Rattle.layout.proofs.hardware_at.Goals as goal
 
 pub returns : goal.returns

@@ -1,7 +1,6 @@
 -- `layout::open_code` meets its contract. The number at the place of the open command.
 use Rattle.layout.specs.Places.{place_of, sizes}
 use Rattle.octets.specs.Parts.{place_at}
-use borrow.Author.Rules.{rules}
 use Rattle.layout.proofs.open_code.Goals as goal
 
 pub returns : goal.returns

@@ -1,10 +1,5 @@
 -- `layout::put_instance` meets its contract. The schedule and the data of the instance are pieces of the block.
-use mathlib.Core.Path.{◌≡◌, refl, sym, ap, ◌∙◌, subst}
-use mathlib.Core.List.{List, [], ◌∷◌, ◌++◌}
-use mathlib.Core.Logic.{⊎_elim}
-use Prim.Native.Nat.{ℕ, zero, suc, ◌+◌, ◌-◌, ◌*◌, ◌≤◌, ◌<◌}
-use native.Mathlib.Omega.{arith}
-use lib.ListN.{length, take, drop, get_or, set, length-set}
+use mathlib.Core.Path.{◌∙◌}
 use Rattle.layout.proofs.Advertising.{instance_laid}
 use borrow.Author.Rules.{rules}
 use Rattle.layout.proofs.put_instance.Goals as goal

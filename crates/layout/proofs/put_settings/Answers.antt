@@ -1,10 +1,5 @@
 -- `layout::put_settings` meets its contract. The settings are a piece of the block.
-use mathlib.Core.Path.{◌≡◌, refl, sym, ap, ◌∙◌, subst}
-use mathlib.Core.List.{List, [], ◌∷◌, ◌++◌}
-use mathlib.Core.Logic.{⊎_elim}
-use Prim.Native.Nat.{ℕ, zero, suc, ◌+◌, ◌-◌, ◌*◌, ◌≤◌, ◌<◌}
-use native.Mathlib.Omega.{arith}
-use lib.ListN.{length, take, drop, get_or, set, length-set}
+use mathlib.Core.Path.{◌∙◌}
 use Rattle.layout.proofs.Change.{settings_changed_lem}
 use Rattle.layout.specs.Places.{place_of, sizes}
 use Rattle.octets.specs.Parts.{place_at}

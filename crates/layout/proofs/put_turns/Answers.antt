@@ -1,10 +1,5 @@
 -- `layout::put_turns` meets its contract. Settings, schedule and data are pieces of the block, each written at its place.
-use mathlib.Core.Path.{◌≡◌, refl, sym, ap, ◌∙◌, subst}
-use mathlib.Core.List.{List, [], ◌∷◌, ◌++◌}
-use mathlib.Core.Logic.{⊎_elim}
-use Prim.Native.Nat.{ℕ, zero, suc, ◌+◌, ◌-◌, ◌*◌, ◌≤◌, ◌<◌}
-use native.Mathlib.Omega.{arith}
-use lib.ListN.{length, take, drop, get_or, set, length-set}
+use mathlib.Core.Path.{◌∙◌}
 use Rattle.layout.proofs.Advertising.{turns_laid}
 use borrow.Author.Rules.{rules}
 use Rattle.layout.proofs.put_turns.Goals as goal

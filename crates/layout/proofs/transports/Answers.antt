@@ -1,6 +1,5 @@
 -- `layout::transports` meets its contract. The two bits of the supported settings, as flags.
 use Rattle.layout.specs.Places.{transports_of}
-use borrow.Author.Rules.{rules}
 use Rattle.layout.proofs.transports.Goals as goal
 
 pub returns : goal.returns

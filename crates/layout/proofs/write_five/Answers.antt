@@ -1,21 +1,18 @@
 -- `layout::write_five` meets its contract. Five numbers, one behind the other.
-use mathlib.Core.Path.{◌≡◌, refl, sym, ap, ◌∙◌, subst}
-use mathlib.Core.List.{List, [], ◌∷◌, ◌++◌}
-use mathlib.Core.Logic.{⊎_elim}
-use Prim.Native.Nat.{ℕ, zero, suc, ◌+◌, ◌-◌, ◌*◌, ◌≤◌, ◌<◌}
-use native.Mathlib.Omega.{arith}
-use lib.ListN.{length, take, drop, get_or, set, length-set}
-use Rattle.layout.proofs.Writes.{five_put}
-use borrow.Author.Rules.{rules}
+use Rattle.std.proofs.Common.{arith, refl, ◌∙◌, add-one}
+use Rattle.std.proofs.lemmas.List.{take_all}
+use Rattle.model.specs.Commands.{words}
+use Rattle.octets.specs.Parts.{write_at}
+use Rattle.layout.proofs.Writes.{word_more}
 use Rattle.layout.proofs.write_five.Goals as goal
 
--- src/lib.rt:310:1
+pub loop-k-init : goal.loop-k-init
+unfolding words write_at
+loop-k-init c = refl
+
+pub loop-k-preserved : goal.loop-k-preserved
+loop-k-preserved c =
+    c.put16.ensures ∙ rw (c.loop-k.invariant, add-one, c.from.ensures) (word_more _ _ _ _ (omega arith))
+
 pub returns : goal.returns
-returns c =
-    c.put16-5.ensures
-    ∙ rw (
-      c.put16-4.ensures,
-      c.put16-3.ensures,
-      c.put16-2.ensures,
-      c.put16.ensures,
-    ) (five_put _ _ _ (search rules))
+returns c = c.loop-k.invariant ∙ rw (take_all c.loop-k.k c.args.l (omega arith))

@@ -1,10 +1,5 @@
 -- `layout::write_schedule` meets its contract. Durations, timeouts, the instance on air, the seconds left.
-use mathlib.Core.Path.{◌≡◌, refl, sym, ap, ◌∙◌, subst}
-use mathlib.Core.List.{List, [], ◌∷◌, ◌++◌}
-use mathlib.Core.Logic.{⊎_elim}
-use Prim.Native.Nat.{ℕ, zero, suc, ◌+◌, ◌-◌, ◌*◌, ◌≤◌, ◌<◌}
-use native.Mathlib.Omega.{arith}
-use lib.ListN.{length, take, drop, get_or, set, length-set}
+use mathlib.Core.Path.{◌∙◌}
 use Rattle.layout.proofs.Writes.{schedule_put}
 use borrow.Author.Rules.{rules}
 use Rattle.layout.proofs.write_schedule.Goals as goal

@@ -1,6 +1,5 @@
 -- `lists::key_at` meets its contract: its two callees say the two fields.
 use Rattle.lists.specs.Lists.{key_at, key_of}
-use borrow.Author.Rules.{rules}
 use Rattle.lists.proofs.key_at.Goals as goal
 
 pub returns : goal.returns

@@ -1,6 +1,5 @@
 -- `lists::note` meets its contract: one word is stored, and the key's own answer is given.
 use mathlib.Core.Path.{refl}
-use borrow.Author.Rules.{rules}
 use Rattle.lists.proofs.note.Goals as goal
 
 pub returns : goal.returns

@@ -1,7 +1,6 @@
 -- `moves::downgrade` meets its contract.
 use Rattle.model.specs.Moves.{hub_downgrade}
 use Rattle.moves.specs.Moving.{other}
-use borrow.Author.Rules.{rules}
 use Rattle.moves.proofs.downgrade.Goals as goal
 
 pub returns : goal.returns

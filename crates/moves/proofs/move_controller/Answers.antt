@@ -1,212 +1,167 @@
 -- `moves::move_controller` meets its contract: the octets before the names, the two names and the tables, one behind the other.
-use Prim.Native.Nat.{ℕ, ◌+◌}
-use native.Mathlib.Omega.{arith}
-use mathlib.Core.Path.{◌≡◌, refl}
-use mathlib.Core.Option.{some}
-use lib.ListN.{length, drop}
-use Rattle.model.specs.declared.Version.{Version}
-use Rattle.model.specs.Image.{name_size}
+use Rattle.std.specs.Prelude.{◌≡◌, ◌+◌, ◌-◌, length}
+use Rattle.std.proofs.Common.{arith, refl}
+use Rattle.octets.specs.Parts.{part}
+use Rattle.octets.proofs.Parts.{length_part}
 use Rattle.model.proofs.Model.Tables.{slice_bytes}
-use Rattle.reading.specs.Contents.{Parsed, Placed, controller_in}
 use Rattle.moves.specs.Moving.{other}
-use Rattle.moves.proofs.Pieces.{Laid, Room, controller_written, finds_room, laid}
-use borrow.Author.Rules.{rules}
+use Rattle.moves.proofs.Pieces.{controller_written, finds, laid}
 use Rattle.moves.proofs.move_controller.Goals as goal
 
-pub overflow_add-at : goal.overflow_add-at
-overflow_add-at c = omega (
-  arith,
-  (let told : (v : Version) (n : ℕ) → let s = c.args in v ≡ other s.to → n ≡ name_size v 249 (drop (s.at + 24) s.image.now)
-      → Room s.to s.image.now s.at s.tables s.end n s.place (length s.out.now) = λ v n ev en. let g = c.requires.0 in
-      finds_room _ _ _ _ _ _ _ _ g.0 ((let told : (v : Version) (n : ℕ) (g : Parsed Placed) → let s = c.args in
-      controller_in (other s.to) (drop s.at s.image.now) ≡ some g → v ≡ other s.to → n ≡ name_size v 249 (drop (s.at + 24) s.image.now)
-      → Laid s.to s.image.now s.at s.tables s.end n g = λ v n g e ev en. let q = c.requires in
-      laid _ v _ _ _ _ n g (slice_bytes _ (λ j. omega (arith, c.shared_slice_known-1.given j))) e q.1 q.2 (q.3 g e).0 ev en in told) v n g.0 g.1 ev en) (c.requires.3 g.0 g.1).1 in told) _ _ refl refl,
-)
+pub overflow_add-name : goal.overflow_add-name
+overflow_add-name c =
+    let a = c.args in
+    let q = c.requires in
+    let r = finds a.to (other a.to) a.image.now a.at a.tables a.end _ a.place (length a.out.now) (slice_bytes _ (λ j. omega (arith, c.type_inv.image j)))
+    q.0 q.1 q.2 q.3 refl refl in
+    omega arith
 
-pub name_size-n-requires : goal.name_size-n-requires
-name_size-n-requires c = omega (
-  arith,
-  (let told : (v : Version) (n : ℕ) → let s = c.args in v ≡ other s.to → n ≡ name_size v 249 (drop (s.at + 24) s.image.now)
-      → Room s.to s.image.now s.at s.tables s.end n s.place (length s.out.now) = λ v n ev en. let g = c.requires.0 in
-      finds_room _ _ _ _ _ _ _ _ g.0 ((let told : (v : Version) (n : ℕ) (g : Parsed Placed) → let s = c.args in
-      controller_in (other s.to) (drop s.at s.image.now) ≡ some g → v ≡ other s.to → n ≡ name_size v 249 (drop (s.at + 24) s.image.now)
-      → Laid s.to s.image.now s.at s.tables s.end n g = λ v n g e ev en. let q = c.requires in
-      laid _ v _ _ _ _ n g (slice_bytes _ (λ j. omega (arith, c.shared_slice_known-1.given j))) e q.1 q.2 (q.3 g e).0 ev en in told) v n g.0 g.1 ev en) (c.requires.3 g.0 g.1).1 in told) _ _ refl refl,
-)
+pub name_size-requires : goal.name_size-requires
+name_size-requires c =
+    let a = c.args in
+    let q = c.requires in
+    let r = finds a.to (other a.to) a.image.now a.at a.tables a.end _ a.place (length a.out.now) (slice_bytes _ (λ j. omega (arith, c.type_inv.image j)))
+    q.0 q.1 q.2 q.3 refl refl in
+    omega arith
+
+pub overflow_add-short : goal.overflow_add-short
+overflow_add-short c =
+    let a = c.args in
+    let q = c.requires in
+    let r = finds a.to _ a.image.now a.at a.tables a.end _ a.place (length a.out.now) (slice_bytes _ (λ j. omega (arith, c.type_inv.image j)))
+    q.0 q.1 q.2 q.3 c.other.ensures c.name_size.ensures.0 in
+    omega arith
 
 pub move_fixed-requires : goal.move_fixed-requires
-move_fixed-requires c = (
-  omega (
-    arith,
-    (let s = c.args in let told : Room s.to s.image.now s.at s.tables s.end c.name_size-n.result s.place (length s.out.now) = (let told : (v : Version) (n : ℕ) → let s = c.args in v ≡ other s.to → n ≡ name_size v 249 (drop (s.at + 24) s.image.now)
-        → Room s.to s.image.now s.at s.tables s.end n s.place (length s.out.now) = λ v n ev en. let g = c.requires.0 in
-        finds_room _ _ _ _ _ _ _ _ g.0 ((let told : (v : Version) (n : ℕ) (g : Parsed Placed) → let s = c.args in
-        controller_in (other s.to) (drop s.at s.image.now) ≡ some g → v ≡ other s.to → n ≡ name_size v 249 (drop (s.at + 24) s.image.now)
-        → Laid s.to s.image.now s.at s.tables s.end n g = λ v n g e ev en. let q = c.requires in
-        laid _ v _ _ _ _ n g (slice_bytes _ (λ j. omega (arith, c.shared_slice_known-1.given j))) e q.1 q.2 (q.3 g e).0 ev en in told) v n g.0 g.1 ev en) (c.requires.3 g.0 g.1).1 in told) _ _ c.other.ensures c.name_size-n.ensures.0 in told),
-  ),
-  omega (
-    arith,
-    (let s = c.args in let told : Room s.to s.image.now s.at s.tables s.end c.name_size-n.result s.place (length s.out.now) = (let told : (v : Version) (n : ℕ) → let s = c.args in v ≡ other s.to → n ≡ name_size v 249 (drop (s.at + 24) s.image.now)
-        → Room s.to s.image.now s.at s.tables s.end n s.place (length s.out.now) = λ v n ev en. let g = c.requires.0 in
-        finds_room _ _ _ _ _ _ _ _ g.0 ((let told : (v : Version) (n : ℕ) (g : Parsed Placed) → let s = c.args in
-        controller_in (other s.to) (drop s.at s.image.now) ≡ some g → v ≡ other s.to → n ≡ name_size v 249 (drop (s.at + 24) s.image.now)
-        → Laid s.to s.image.now s.at s.tables s.end n g = λ v n g e ev en. let q = c.requires in
-        laid _ v _ _ _ _ n g (slice_bytes _ (λ j. omega (arith, c.shared_slice_known-1.given j))) e q.1 q.2 (q.3 g e).0 ev en in told) v n g.0 g.1 ev en) (c.requires.3 g.0 g.1).1 in told) _ _ c.other.ensures c.name_size-n.ensures.0 in told),
-  ),
-)
+move_fixed-requires c =
+    let a = c.args in
+    let q = c.requires in
+    let r = finds a.to _ a.image.now a.at a.tables a.end _ a.place (length a.out.now) (slice_bytes _ (λ j. omega (arith, c.type_inv.image j)))
+    q.0 q.1 q.2 q.3 c.other.ensures c.name_size.ensures.0 in
+    (omega arith, omega arith)
 
-pub overflow_add-at-2 : goal.overflow_add-at-2
-overflow_add-at-2 c = omega (
-  arith,
-  (let s = c.args in let told : Room s.to s.image.now s.at s.tables s.end c.name_size-n.result s.place (length s.out.now) = (let told : (v : Version) (n : ℕ) → let s = c.args in v ≡ other s.to → n ≡ name_size v 249 (drop (s.at + 24) s.image.now)
-      → Room s.to s.image.now s.at s.tables s.end n s.place (length s.out.now) = λ v n ev en. let g = c.requires.0 in
-      finds_room _ _ _ _ _ _ _ _ g.0 ((let told : (v : Version) (n : ℕ) (g : Parsed Placed) → let s = c.args in
-      controller_in (other s.to) (drop s.at s.image.now) ≡ some g → v ≡ other s.to → n ≡ name_size v 249 (drop (s.at + 24) s.image.now)
-      → Laid s.to s.image.now s.at s.tables s.end n g = λ v n g e ev en. let q = c.requires in
-      laid _ v _ _ _ _ n g (slice_bytes _ (λ j. omega (arith, c.shared_slice_known-1.given j))) e q.1 q.2 (q.3 g e).0 ev en in told) v n g.0 g.1 ev en) (c.requires.3 g.0 g.1).1 in told) _ _ c.other.ensures c.name_size-n.ensures.0 in told),
-)
+pub slice_bounds-move_name-end : goal.slice_bounds-move_name-end
+slice_bounds-move_name-end c =
+    let a = c.args in
+    let q = c.requires in
+    let r = finds a.to _ a.image.now a.at a.tables a.end _ a.place (length a.out.now) (slice_bytes _ (λ j. omega (arith, c.type_inv.image j)))
+    q.0 q.1 q.2 q.3 c.other.ensures c.name_size.ensures.0 in
+    omega arith
 
 pub overflow_add-place : goal.overflow_add-place
-overflow_add-place c = omega (
-  arith,
-  (let s = c.args in let told : Room s.to s.image.now s.at s.tables s.end c.name_size-n.result s.place (length s.out.now) = (let told : (v : Version) (n : ℕ) → let s = c.args in v ≡ other s.to → n ≡ name_size v 249 (drop (s.at + 24) s.image.now)
-      → Room s.to s.image.now s.at s.tables s.end n s.place (length s.out.now) = λ v n ev en. let g = c.requires.0 in
-      finds_room _ _ _ _ _ _ _ _ g.0 ((let told : (v : Version) (n : ℕ) (g : Parsed Placed) → let s = c.args in
-      controller_in (other s.to) (drop s.at s.image.now) ≡ some g → v ≡ other s.to → n ≡ name_size v 249 (drop (s.at + 24) s.image.now)
-      → Laid s.to s.image.now s.at s.tables s.end n g = λ v n g e ev en. let q = c.requires in
-      laid _ v _ _ _ _ n g (slice_bytes _ (λ j. omega (arith, c.shared_slice_known-1.given j))) e q.1 q.2 (q.3 g e).0 ev en in told) v n g.0 g.1 ev en) (c.requires.3 g.0 g.1).1 in told) _ _ c.other.ensures c.name_size-n.ensures.0 in told),
-)
+overflow_add-place c =
+    let a = c.args in
+    let q = c.requires in
+    let r = finds a.to _ a.image.now a.at a.tables a.end _ a.place (length a.out.now) (slice_bytes _ (λ j. omega (arith, c.type_inv.image j)))
+    q.0 q.1 q.2 q.3 c.other.ensures c.name_size.ensures.0 in
+    omega arith
 
-pub move_name-short-requires : goal.move_name-short-requires
-move_name-short-requires c = let r = (let s = c.args in let told : Room s.to s.image.now s.at s.tables s.end c.name_size-n.result s.place (length s.out.now) = (let told : (v : Version) (n : ℕ) → let s = c.args in v ≡ other s.to → n ≡ name_size v 249 (drop (s.at + 24) s.image.now)
-    → Room s.to s.image.now s.at s.tables s.end n s.place (length s.out.now) = λ v n ev en. let g = c.requires.0 in
-    finds_room _ _ _ _ _ _ _ _ g.0 ((let told : (v : Version) (n : ℕ) (g : Parsed Placed) → let s = c.args in
-    controller_in (other s.to) (drop s.at s.image.now) ≡ some g → v ≡ other s.to → n ≡ name_size v 249 (drop (s.at + 24) s.image.now)
-    → Laid s.to s.image.now s.at s.tables s.end n g = λ v n g e ev en. let q = c.requires in
-    laid _ v _ _ _ _ n g (slice_bytes _ (λ j. omega (arith, c.shared_slice_known-1.given j))) e q.1 q.2 (q.3 g e).0 ev en in told) v n g.0 g.1 ev en) (c.requires.3 g.0 g.1).1 in told) _ _ c.other.ensures c.name_size-n.ensures.0 in told) in (omega arith, r.some, r.few, omega arith, omega (arith, c.move_fixed.auto))
+pub move_name-second-requires : goal.move_name-second-requires
+unfolding part
+move_name-second-requires c =
+    let a = c.args in
+    let q = c.requires in
+    let r = finds a.to _ a.image.now a.at a.tables a.end _ a.place (length a.out.now) (slice_bytes _ (λ j. omega (arith, c.type_inv.image j)))
+    q.0 q.1 q.2 q.3 c.other.ensures c.name_size.ensures.0 in
+    let n = c.name_size.result in
+    let first : a.at + 24 + n - (a.at + 24) ≡ n = omega arith in
+    let l = length_part a.image.now (a.at + 24) n (omega arith) in
+    rw first (omega (arith, l), omega (arith, l), omega arith, omega (arith, c.move_fixed.auto))
 
-pub overflow_add-at-3 : goal.overflow_add-at-3
-overflow_add-at-3 c = omega (
-  arith,
-  (let s = c.args in let told : Room s.to s.image.now s.at s.tables s.end c.name_size-n.result s.place (length s.out.now) = (let told : (v : Version) (n : ℕ) → let s = c.args in v ≡ other s.to → n ≡ name_size v 249 (drop (s.at + 24) s.image.now)
-      → Room s.to s.image.now s.at s.tables s.end n s.place (length s.out.now) = λ v n ev en. let g = c.requires.0 in
-      finds_room _ _ _ _ _ _ _ _ g.0 ((let told : (v : Version) (n : ℕ) (g : Parsed Placed) → let s = c.args in
-      controller_in (other s.to) (drop s.at s.image.now) ≡ some g → v ≡ other s.to → n ≡ name_size v 249 (drop (s.at + 24) s.image.now)
-      → Laid s.to s.image.now s.at s.tables s.end n g = λ v n g e ev en. let q = c.requires in
-      laid _ v _ _ _ _ n g (slice_bytes _ (λ j. omega (arith, c.shared_slice_known-1.given j))) e q.1 q.2 (q.3 g e).0 ev en in told) v n g.0 g.1 ev en) (c.requires.3 g.0 g.1).1 in told) _ _ c.other.ensures c.name_size-n.ensures.0 in told),
-)
+pub slice_bounds-move_name-count-2 : goal.slice_bounds-move_name-count-2
+slice_bounds-move_name-count-2 c =
+    let a = c.args in
+    let q = c.requires in
+    let r = finds a.to _ a.image.now a.at a.tables a.end _ a.place (length a.out.now) (slice_bytes _ (λ j. omega (arith, c.type_inv.image j)))
+    q.0 q.1 q.2 q.3 c.other.ensures c.name_size.ensures.0 in
+    omega arith
 
-pub overflow_add-at-4 : goal.overflow_add-at-4
-overflow_add-at-4 c = omega (
-  arith,
-  (let s = c.args in let told : Room s.to s.image.now s.at s.tables s.end c.name_size-n.result s.place (length s.out.now) = (let told : (v : Version) (n : ℕ) → let s = c.args in v ≡ other s.to → n ≡ name_size v 249 (drop (s.at + 24) s.image.now)
-      → Room s.to s.image.now s.at s.tables s.end n s.place (length s.out.now) = λ v n ev en. let g = c.requires.0 in
-      finds_room _ _ _ _ _ _ _ _ g.0 ((let told : (v : Version) (n : ℕ) (g : Parsed Placed) → let s = c.args in
-      controller_in (other s.to) (drop s.at s.image.now) ≡ some g → v ≡ other s.to → n ≡ name_size v 249 (drop (s.at + 24) s.image.now)
-      → Laid s.to s.image.now s.at s.tables s.end n g = λ v n g e ev en. let q = c.requires in
-      laid _ v _ _ _ _ n g (slice_bytes _ (λ j. omega (arith, c.shared_slice_known-1.given j))) e q.1 q.2 (q.3 g e).0 ev en in told) v n g.0 g.1 ev en) (c.requires.3 g.0 g.1).1 in told) _ _ c.other.ensures c.name_size-n.ensures.0 in told),
-)
+pub slice_bounds-move_name-start-2 : goal.slice_bounds-move_name-start-2
+slice_bounds-move_name-start-2 c =
+    let a = c.args in
+    let q = c.requires in
+    let r = finds a.to _ a.image.now a.at a.tables a.end _ a.place (length a.out.now) (slice_bytes _ (λ j. omega (arith, c.type_inv.image j)))
+    q.0 q.1 q.2 q.3 c.other.ensures c.name_size.ensures.0 in
+    omega arith
 
-pub overflow_add-at-5 : goal.overflow_add-at-5
-overflow_add-at-5 c = omega (
-  arith,
-  (let s = c.args in let told : Room s.to s.image.now s.at s.tables s.end c.name_size-n.result s.place (length s.out.now) = (let told : (v : Version) (n : ℕ) → let s = c.args in v ≡ other s.to → n ≡ name_size v 249 (drop (s.at + 24) s.image.now)
-      → Room s.to s.image.now s.at s.tables s.end n s.place (length s.out.now) = λ v n ev en. let g = c.requires.0 in
-      finds_room _ _ _ _ _ _ _ _ g.0 ((let told : (v : Version) (n : ℕ) (g : Parsed Placed) → let s = c.args in
-      controller_in (other s.to) (drop s.at s.image.now) ≡ some g → v ≡ other s.to → n ≡ name_size v 249 (drop (s.at + 24) s.image.now)
-      → Laid s.to s.image.now s.at s.tables s.end n g = λ v n g e ev en. let q = c.requires in
-      laid _ v _ _ _ _ n g (slice_bytes _ (λ j. omega (arith, c.shared_slice_known-1.given j))) e q.1 q.2 (q.3 g e).0 ev en in told) v n g.0 g.1 ev en) (c.requires.3 g.0 g.1).1 in told) _ _ c.other.ensures c.name_size-n.ensures.0 in told),
-)
-
-pub overflow_add-at-6 : goal.overflow_add-at-6
-overflow_add-at-6 c = omega (
-  arith,
-  (let s = c.args in let told : Room s.to s.image.now s.at s.tables s.end c.name_size-n.result s.place (length s.out.now) = (let told : (v : Version) (n : ℕ) → let s = c.args in v ≡ other s.to → n ≡ name_size v 249 (drop (s.at + 24) s.image.now)
-      → Room s.to s.image.now s.at s.tables s.end n s.place (length s.out.now) = λ v n ev en. let g = c.requires.0 in
-      finds_room _ _ _ _ _ _ _ _ g.0 ((let told : (v : Version) (n : ℕ) (g : Parsed Placed) → let s = c.args in
-      controller_in (other s.to) (drop s.at s.image.now) ≡ some g → v ≡ other s.to → n ≡ name_size v 249 (drop (s.at + 24) s.image.now)
-      → Laid s.to s.image.now s.at s.tables s.end n g = λ v n g e ev en. let q = c.requires in
-      laid _ v _ _ _ _ n g (slice_bytes _ (λ j. omega (arith, c.shared_slice_known-1.given j))) e q.1 q.2 (q.3 g e).0 ev en in told) v n g.0 g.1 ev en) (c.requires.3 g.0 g.1).1 in told) _ _ c.other.ensures c.name_size-n.ensures.0 in told),
-)
-
-pub overflow_sub-tables : goal.overflow_sub-tables
-overflow_sub-tables c = omega (
-  arith,
-  (let s = c.args in let told : Room s.to s.image.now s.at s.tables s.end c.name_size-n.result s.place (length s.out.now) = (let told : (v : Version) (n : ℕ) → let s = c.args in v ≡ other s.to → n ≡ name_size v 249 (drop (s.at + 24) s.image.now)
-      → Room s.to s.image.now s.at s.tables s.end n s.place (length s.out.now) = λ v n ev en. let g = c.requires.0 in
-      finds_room _ _ _ _ _ _ _ _ g.0 ((let told : (v : Version) (n : ℕ) (g : Parsed Placed) → let s = c.args in
-      controller_in (other s.to) (drop s.at s.image.now) ≡ some g → v ≡ other s.to → n ≡ name_size v 249 (drop (s.at + 24) s.image.now)
-      → Laid s.to s.image.now s.at s.tables s.end n g = λ v n g e ev en. let q = c.requires in
-      laid _ v _ _ _ _ n g (slice_bytes _ (λ j. omega (arith, c.shared_slice_known-1.given j))) e q.1 q.2 (q.3 g e).0 ev en in told) v n g.0 g.1 ev en) (c.requires.3 g.0 g.1).1 in told) _ _ c.other.ensures c.name_size-n.ensures.0 in told),
-)
+pub slice_bounds-move_name-end-2 : goal.slice_bounds-move_name-end-2
+slice_bounds-move_name-end-2 c =
+    let a = c.args in
+    let q = c.requires in
+    let r = finds a.to _ a.image.now a.at a.tables a.end _ a.place (length a.out.now) (slice_bytes _ (λ j. omega (arith, c.type_inv.image j)))
+    q.0 q.1 q.2 q.3 c.other.ensures c.name_size.ensures.0 in
+    omega arith
 
 pub move_name-p-requires : goal.move_name-p-requires
+unfolding part
 move_name-p-requires c =
-    let r = (let s = c.args in let told : Room s.to s.image.now s.at s.tables s.end c.name_size-n.result s.place (length s.out.now) = (let told : (v : Version) (n : ℕ) → let s = c.args in v ≡ other s.to → n ≡ name_size v 249 (drop (s.at + 24) s.image.now)
-    → Room s.to s.image.now s.at s.tables s.end n s.place (length s.out.now) = λ v n ev en. let g = c.requires.0 in
-    finds_room _ _ _ _ _ _ _ _ g.0 ((let told : (v : Version) (n : ℕ) (g : Parsed Placed) → let s = c.args in
-    controller_in (other s.to) (drop s.at s.image.now) ≡ some g → v ≡ other s.to → n ≡ name_size v 249 (drop (s.at + 24) s.image.now)
-    → Laid s.to s.image.now s.at s.tables s.end n g = λ v n g e ev en. let q = c.requires in
-    laid _ v _ _ _ _ n g (slice_bytes _ (λ j. omega (arith, c.shared_slice_known-1.given j))) e q.1 q.2 (q.3 g e).0 ev en in told) v n g.0 g.1 ev en) (c.requires.3 g.0 g.1).1 in told) _ _ c.other.ensures c.name_size-n.ensures.0 in told) in
-    let k = c.move_name-short in
-    (omega arith, omega arith, omega arith, omega arith, omega (arith, k.ensures.0, k.auto, c.move_fixed.auto))
+    let a = c.args in
+    let q = c.requires in
+    let r = finds a.to _ a.image.now a.at a.tables a.end _ a.place (length a.out.now) (slice_bytes _ (λ j. omega (arith, c.type_inv.image j)))
+    q.0 q.1 q.2 q.3 c.other.ensures c.name_size.ensures.0 in
+    let n = c.name_size.result in
+    let first : a.at + 24 + n - (a.at + 24) ≡ n = omega arith in
+    let k = rw first at c.move_name-second.ensures in
+    let l = length_part a.image.now (a.at + 24 + n) (a.tables - (a.at + 24 + n)) (omega arith) in
+    (omega (arith, l), omega (arith, l), omega arith, omega (arith, k.0, c.move_name-second.auto, c.move_fixed.auto))
 
-pub overflow_sub-end : goal.overflow_sub-end
-overflow_sub-end c = omega (
-  arith,
-  (let s = c.args in let told : Room s.to s.image.now s.at s.tables s.end c.name_size-n.result s.place (length s.out.now) = (let told : (v : Version) (n : ℕ) → let s = c.args in v ≡ other s.to → n ≡ name_size v 249 (drop (s.at + 24) s.image.now)
-      → Room s.to s.image.now s.at s.tables s.end n s.place (length s.out.now) = λ v n ev en. let g = c.requires.0 in
-      finds_room _ _ _ _ _ _ _ _ g.0 ((let told : (v : Version) (n : ℕ) (g : Parsed Placed) → let s = c.args in
-      controller_in (other s.to) (drop s.at s.image.now) ≡ some g → v ≡ other s.to → n ≡ name_size v 249 (drop (s.at + 24) s.image.now)
-      → Laid s.to s.image.now s.at s.tables s.end n g = λ v n g e ev en. let q = c.requires in
-      laid _ v _ _ _ _ n g (slice_bytes _ (λ j. omega (arith, c.shared_slice_known-1.given j))) e q.1 q.2 (q.3 g e).0 ev en in told) v n g.0 g.1 ev en) (c.requires.3 g.0 g.1).1 in told) _ _ c.other.ensures c.name_size-n.ensures.0 in told),
-)
+pub slice_bounds-copy_into-count : goal.slice_bounds-copy_into-count
+slice_bounds-copy_into-count c =
+    let a = c.args in
+    let q = c.requires in
+    let r = finds a.to _ a.image.now a.at a.tables a.end _ a.place (length a.out.now) (slice_bytes _ (λ j. omega (arith, c.type_inv.image j)))
+    q.0 q.1 q.2 q.3 c.other.ensures c.name_size.ensures.0 in
+    omega arith
 
-pub copy_part-requires : goal.copy_part-requires
-copy_part-requires c =
-    let r = (let s = c.args in let told : Room s.to s.image.now s.at s.tables s.end c.name_size-n.result s.place (length s.out.now) = (let told : (v : Version) (n : ℕ) → let s = c.args in v ≡ other s.to → n ≡ name_size v 249 (drop (s.at + 24) s.image.now)
-    → Room s.to s.image.now s.at s.tables s.end n s.place (length s.out.now) = λ v n ev en. let g = c.requires.0 in
-    finds_room _ _ _ _ _ _ _ _ g.0 ((let told : (v : Version) (n : ℕ) (g : Parsed Placed) → let s = c.args in
-    controller_in (other s.to) (drop s.at s.image.now) ≡ some g → v ≡ other s.to → n ≡ name_size v 249 (drop (s.at + 24) s.image.now)
-    → Laid s.to s.image.now s.at s.tables s.end n g = λ v n g e ev en. let q = c.requires in
-    laid _ v _ _ _ _ n g (slice_bytes _ (λ j. omega (arith, c.shared_slice_known-1.given j))) e q.1 q.2 (q.3 g e).0 ev en in told) v n g.0 g.1 ev en) (c.requires.3 g.0 g.1).1 in told) _ _ c.other.ensures c.name_size-n.ensures.0 in told) in
-    let k = c.move_name-short in
-    let m = c.move_name-p in
-    (omega (arith, k.ensures.0, m.ensures.0, k.auto, m.auto, c.move_fixed.auto), omega arith)
+pub slice_bounds-copy_into-start : goal.slice_bounds-copy_into-start
+slice_bounds-copy_into-start c =
+    let a = c.args in
+    let q = c.requires in
+    let r = finds a.to _ a.image.now a.at a.tables a.end _ a.place (length a.out.now) (slice_bytes _ (λ j. omega (arith, c.type_inv.image j)))
+    q.0 q.1 q.2 q.3 c.other.ensures c.name_size.ensures.0 in
+    omega arith
+
+pub copy_into-requires : goal.copy_into-requires
+unfolding part
+copy_into-requires c =
+    let a = c.args in
+    let q = c.requires in
+    let r = finds a.to _ a.image.now a.at a.tables a.end _ a.place (length a.out.now) (slice_bytes _ (λ j. omega (arith, c.type_inv.image j)))
+    q.0 q.1 q.2 q.3 c.other.ensures c.name_size.ensures.0 in
+    let n = c.name_size.result in
+    let first : a.at + 24 + n - (a.at + 24) ≡ n = omega arith in
+    let k = rw first at c.move_name-second.ensures in
+    let l = length_part a.image.now a.tables (a.end - a.tables) (omega arith) in
+    omega (arith, l, k.0, c.move_name-p.ensures.0, c.move_name-second.auto, c.move_name-p.auto, c.move_fixed.auto)
 
 pub overflow_sub-result : goal.overflow_sub-result
-overflow_sub-result c = omega (
-  arith,
-  (let s = c.args in let told : Room s.to s.image.now s.at s.tables s.end c.name_size-n.result s.place (length s.out.now) = (let told : (v : Version) (n : ℕ) → let s = c.args in v ≡ other s.to → n ≡ name_size v 249 (drop (s.at + 24) s.image.now)
-      → Room s.to s.image.now s.at s.tables s.end n s.place (length s.out.now) = λ v n ev en. let g = c.requires.0 in
-      finds_room _ _ _ _ _ _ _ _ g.0 ((let told : (v : Version) (n : ℕ) (g : Parsed Placed) → let s = c.args in
-      controller_in (other s.to) (drop s.at s.image.now) ≡ some g → v ≡ other s.to → n ≡ name_size v 249 (drop (s.at + 24) s.image.now)
-      → Laid s.to s.image.now s.at s.tables s.end n g = λ v n g e ev en. let q = c.requires in
-      laid _ v _ _ _ _ n g (slice_bytes _ (λ j. omega (arith, c.shared_slice_known-1.given j))) e q.1 q.2 (q.3 g e).0 ev en in told) v n g.0 g.1 ev en) (c.requires.3 g.0 g.1).1 in told) _ _ c.other.ensures c.name_size-n.ensures.0 in told),
-)
+overflow_sub-result c =
+    let a = c.args in
+    let q = c.requires in
+    let r = finds a.to _ a.image.now a.at a.tables a.end _ a.place (length a.out.now) (slice_bytes _ (λ j. omega (arith, c.type_inv.image j)))
+    q.0 q.1 q.2 q.3 c.other.ensures c.name_size.ensures.0 in
+    omega arith
 
 pub overflow_add-result : goal.overflow_add-result
+unfolding part
 overflow_add-result c =
-    let n = c in
-    let s = n in
-    let r = (let s = c.args in let told : Room s.to s.image.now s.at s.tables s.end c.name_size-n.result s.place (length s.out.now) = (let told : (v : Version) (n : ℕ) → let s = c.args in v ≡ other s.to → n ≡ name_size v 249 (drop (s.at + 24) s.image.now)
-    → Room s.to s.image.now s.at s.tables s.end n s.place (length s.out.now) = λ v n ev en. let g = c.requires.0 in
-    finds_room _ _ _ _ _ _ _ _ g.0 ((let told : (v : Version) (n : ℕ) (g : Parsed Placed) → let s = c.args in
-    controller_in (other s.to) (drop s.at s.image.now) ≡ some g → v ≡ other s.to → n ≡ name_size v 249 (drop (s.at + 24) s.image.now)
-    → Laid s.to s.image.now s.at s.tables s.end n g = λ v n g e ev en. let q = c.requires in
-    laid _ v _ _ _ _ n g (slice_bytes _ (λ j. omega (arith, c.shared_slice_known-1.given j))) e q.1 q.2 (q.3 g e).0 ev en in told) v n g.0 g.1 ev en) (c.requires.3 g.0 g.1).1 in told) _ _ c.other.ensures c.name_size-n.ensures.0 in told) in
-    omega (arith, c.move_name-short.ensures.0, c.move_name-p.ensures.0)
+    let a = c.args in
+    let q = c.requires in
+    let r = finds a.to _ a.image.now a.at a.tables a.end _ a.place (length a.out.now) (slice_bytes _ (λ j. omega (arith, c.type_inv.image j)))
+    q.0 q.1 q.2 q.3 c.other.ensures c.name_size.ensures.0 in
+    let n = c.name_size.result in
+    let first : a.at + 24 + n - (a.at + 24) ≡ n = omega arith in
+    let k = rw first at c.move_name-second.ensures in
+    omega (arith, k.0, c.move_name-p.ensures.0)
 
 pub returns : goal.returns
-returns c =
-    λ g e.
-    let n = c in
-    let k = c.move_name-short.ensures in
-    let m = c.move_name-p.ensures in
-    controller_written _ _ _ _ _ _ g _ _ _ _ _ _ _ _ ((let told : (v : Version) (n : ℕ) (g : Parsed Placed) → let s = c.args in
-    controller_in (other s.to) (drop s.at s.image.now) ≡ some g → v ≡ other s.to → n ≡ name_size v 249 (drop (s.at + 24) s.image.now)
-    → Laid s.to s.image.now s.at s.tables s.end n g = λ v n g e ev en. let q = c.requires in
-    laid _ v _ _ _ _ n g (slice_bytes _ (λ j. omega (arith, c.shared_slice_known-1.given j))) e q.1 q.2 (q.3 g e).0 ev en in told) _ _ g e n.other.ensures n.name_size-n.ensures.0)
-    c.move_fixed.ensures k.0 k.1 m.0 m.1 c.copy_part.ensures
+unfolding part
+returns c g e =
+    let a = c.args in
+    let q = c.requires in
+    let w = slice_bytes a.image.now (λ j. omega (arith, c.type_inv.image j)) in
+    let l = laid a.to _ a.image.now a.at a.tables a.end c.name_size.result g w e q.1 q.2 (q.3 g e).0 c.other.ensures c.name_size.ensures.0 in
+    let n = c.name_size.result in
+    let first : a.at + 24 + n - (a.at + 24) ≡ n = omega arith in
+    let k = rw first at c.move_name-second.ensures in
+    controller_written _ _ _ _ _ _ g _ _ _ _ _ _ _ _ l c.move_fixed.ensures k.0 k.1 c.move_name-p.ensures.0 c.move_name-p.ensures.1 c.copy_into.ensures

@@ -1,7 +1,6 @@
 -- `moves::upgrade` meets its contract.
 use Rattle.model.specs.Moves.{hub_upgrade}
 use Rattle.moves.specs.Moving.{other}
-use borrow.Author.Rules.{rules}
 use Rattle.moves.proofs.upgrade.Goals as goal
 
 pub returns : goal.returns

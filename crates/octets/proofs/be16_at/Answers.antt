@@ -1,4 +1,4 @@
--- `octets::be16_at` meets its contract. The two octets are read, and the law `be16_is` says that their part spells this number.
+-- `octets::be16_at` meets its contract. The law `be16_is` says that the part there spells the number of the octets.
 use mathlib.Core.Path.{◌∙◌}
 use native.Mathlib.Omega.{arith}
 use Rattle.octets.proofs.Laws.{be16_is}
@@ -6,4 +6,4 @@ use borrow.Author.Rules.{rules}
 use Rattle.octets.proofs.be16_at.Goals as goal
 
 pub returns : goal.returns
-returns c = ((cc) ∙ be16_is _ _ (search rules), omega arith)
+returns c = ((cc) ∙ be16_is c.args.s.now c.args.at (search rules), omega arith)

@@ -13,4 +13,4 @@ loop-i-preserved c =
     (omega arith, simp length-set c.loop-i.invariant.1, copy_turn _ _ _ _ c.loop-i-test.true ∙ c.loop-i.invariant.2)
 
 pub returns : goal.returns
-returns c = copy_last _ _ _ _ c.loop-i-test.false ∙ c.loop-i.invariant.2
+returns c = copy_last c.loop-i.s c.args.src.now c.args.at c.loop-i.i (omega arith) ∙ c.loop-i.invariant.2

@@ -1,15 +1,15 @@
--- `octets::zero_fill` meets its contract. The invariant: to write the zeros that are left from the present state on gives the whole write.
-use mathlib.Core.Path.{refl, ◌∙◌}
+-- `octets::zero_fill` meets its contract. The zeros filled into the middle are one write.
 use native.Mathlib.Omega.{arith}
-use lib.ListN.{length-set}
-use Rattle.octets.proofs.Laws.{fill_turn, fill_first, fill_last}
+use mathlib.Core.Path.{◌∙◌}
+use borrow.Author.Rules.{rules}
+use lib.ListN.{replicate, length-replicate}
+use Rattle.octets.proofs.Laws.{mid_is, lent_part}
+use Rattle.octets.proofs.Parts.{length_part}
 use Rattle.octets.proofs.zero_fill.Goals as goal
 
-pub loop-i-init : goal.loop-i-init
-loop-i-init c = (omega arith, refl, fill_first _ _ c.args.n)
-
-pub loop-i-preserved : goal.loop-i-preserved
-loop-i-preserved c = (omega arith, simp length-set c.loop-i.invariant.1, fill_turn _ _ _ _ c.loop-i-test.true ∙ c.loop-i.invariant.2)
-
 pub returns : goal.returns
-returns c = fill_last _ _ _ _ c.loop-i-test.false ∙ c.loop-i.invariant.2
+returns c =
+    let s = c.args.s.now in
+    let n = c.args.n in
+    let z = rw (lent_part s c.args.at n, length_part s c.args.at n (search rules)) at c.fill.ensures.after (λ y h. h) in
+    rw z (mid_is s (replicate n 0) c.args.at _ (length-replicate n 0 ∙ omega arith) (omega arith))

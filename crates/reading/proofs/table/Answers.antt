@@ -1,49 +1,46 @@
 -- `reading::table` meets its contract: each test is one of the model's.
-use mathlib.Core.Path.{sym, ◌∙◌}
-use native.Mathlib.Omega.{arith}
-use lib.ListN.{get_or}
+use Rattle.std.proofs.Common.{arith, rules, sym, ◌∙◌, drop}
+use borrow.Author.Tests.{leb-false, leb-true}
 use Rattle.model.specs.Tables.{rule_at}
+use Rattle.model.specs.Reading.{goes_on, walk_table}
+use Rattle.fields.proofs.Reach.{handed_on}
+use Rattle.reading.specs.Comes.{Comes}
 use Rattle.reading.proofs.OneTable.{size_room, table_many, table_reads, table_right, table_short}
-use borrow.Author.Rules.{rules}
 use Rattle.reading.proofs.table.Goals as goal
 
-pub returns-then-image-place : goal.returns-then-image-place
-returns-then-image-place c f e =
+pub returns-in_err-whole : goal.returns-in_err-whole
+returns-in_err-whole c f e =
     let a = c.args in
-    table_short (rule_at a.k) f a.image.now a.place c.if-image-place.true
+    let x = c.in_err-whole.ensures in
+    handed_on (λ r. Comes a.image.now (walk_table (rule_at a.k) f (goes_on (drop a.place a.image.now))) r) _ _ _ c.from_residual.ensures.1 x.1
+    (table_short (rule_at a.k) f a.image.now a.place (omega (arith, x.0)))
 
-pub overflow_cast-n : goal.overflow_cast-n
-overflow_cast-n c = omega (arith, c.shared_slice_known-2-1.given c.args.place)
-
-pub returns-then-n-gt32 : goal.returns-then-n-gt32
-returns-then-n-gt32 c f e =
+pub returns-in_err-kept : goal.returns-in_err-kept
+returns-in_err-kept c f e =
     let a = c.args in
-    table_many (rule_at a.k) f a.image.now a.place c.if-image-place.false c.if-n-gt32.true
+    let x = c.in_err-kept.ensures in
+    handed_on (λ r. Comes a.image.now (walk_table (rule_at a.k) f (goes_on (drop a.place a.image.now))) r) _ _ _ c.from_residual-in_err-kept.ensures.1 x.1
+    (table_many (rule_at a.k) f a.image.now a.place (omega (arith, c.in_ok-whole.ensures)) (rw c.from-n.ensures at (leb-false _ _ x.0)))
 
 pub overflow_mul-result : goal.overflow_mul-result
 overflow_mul-result c =
-    let a = c.args in
-    let g = size_room a.k c.size_of.result (get_or a.image.now a.place 0) (search rules) c.size_of.ensures
-    c.if-n-gt32.false in
-    omega (arith, g)
+    omega (arith, size_room c.args.k c.size_of.result c.from-n.result (search rules) c.size_of.ensures (leb-true _ _ c.in_ok-kept.ensures))
 
 pub overflow_add-result-then-all_right : goal.overflow_add-result-then-all_right
 overflow_add-result-then-all_right c =
-    let a = c.args in
-    let g = size_room a.k c.size_of.result (get_or a.image.now a.place 0) (search rules) c.size_of.ensures
-    c.if-n-gt32.false in
-    omega (arith, g)
+    omega (arith, size_room c.args.k c.size_of.result c.from-n.result (search rules) c.size_of.ensures (leb-true _ _ c.in_ok-kept.ensures), c.in_ok-whole.ensures)
 
 pub returns-then-all_right : goal.returns-then-all_right
 returns-then-all_right c f e =
     let a = c.args in
-    let few = c.if-n-gt32.false in
-    let right = sym (c.all_right.ensures f e) ∙ c.if-all_right.true in
-    table_right (rule_at a.k) f a.image.now a.place c.if-image-place.false few right _ c.size_of.ensures
+    let few = rw c.from-n.ensures at (leb-true _ _ c.in_ok-kept.ensures) in
+    let right = rw c.from-n.ensures at (sym (c.all_right.ensures f e) ∙ c.if-all_right.true) in
+    rw c.from-n.ensures
+    (table_right (rule_at a.k) f a.image.now a.place (omega (arith, c.in_ok-whole.ensures)) few right _ c.size_of.ensures)
 
 pub returns : goal.returns
 returns c f e =
     let a = c.args in
-    let few = c.if-n-gt32.false in
-    table_reads (rule_at a.k) f a.image.now a.place c.if-image-place.false few
-    c.first_fault.result (c.first_fault.ensures f e)
+    let few = rw c.from-n.ensures at (leb-true _ _ c.in_ok-kept.ensures) in
+    table_reads (rule_at a.k) f a.image.now a.place (omega (arith, c.in_ok-whole.ensures)) few
+    c.first_fault.result (rw c.from-n.ensures at (c.first_fault.ensures f e))

@@ -6,13 +6,10 @@ use Rattle.records.proofs.Identities.{slots_told}
 use borrow.Author.Rules.{rules}
 use Rattle.records.proofs.distinct.Goals as goal
 
-pub distinct_identities-requires : goal.distinct_identities-requires
-distinct_identities-requires c = (c.collect-found.ensures.0, c.collect-found.ensures.1, c.collect-found.ensures.2)
-
 pub returns : goal.returns
 returns c =
     let a = c.args in
     let s = a.s.now in
-    let wide = slice_bytes s (λ k. omega (arith, c.shared_slice_known-1.given k)) in
+    let wide = slice_bytes s (λ k. omega (arith, c.type_inv.s k)) in
     c.distinct_identities.ensures
-    ∙ rw c.collect-found.ensures.3 (slots_told a.k s a.place a.n a.w (search rules) (search rules) wide)
+    ∙ rw c.collect-found.ensures.2 (slots_told a.k s a.place a.n a.w (search rules) (search rules) wide)

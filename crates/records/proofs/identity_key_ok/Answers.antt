@@ -1,6 +1,5 @@
 -- `records::identity_key_ok` meets its contract. Its checks are those of the address.
 use Rattle.records.proofs.Laws.{identity_key_is}
-use borrow.Author.Rules.{rules}
 use Rattle.records.proofs.identity_key_ok.Goals as goal
 
 pub returns : goal.returns

@@ -6,7 +6,7 @@ use mathlib.Core.Bool.{true}
 use Rattle.model.specs.Tables.{distinct, every, records_ok, rule_at}
 use Rattle.records.specs.Slots.{free_zero, records_at}
 use Rattle.records.proofs.Slots.{list_free, no_more}
-use borrow.Author.Rules.{rules}
+use borrow.Author.Tests.{eq-eqb}
 use Rattle.records.proofs.keeps_rule.Goals as goal
 
 pub returns-then-n-eq0 : goal.returns-then-n-eq0
@@ -15,10 +15,10 @@ returns-then-n-eq0 c =
     let a = c.args in
     let s = a.s.now in
     let none : records_at s (rule_at a.k).size a.place a.n a.w ≡ [] = no_more s (rule_at a.k).size a.place a.n a.w (omega arith) in
-    sym (rw none)
+    eq-eqb _ _ c.if-n-eq0.true ∙ sym (rw none)
 
-pub returns : goal.returns
-returns c =
+pub returns-else-n-eq0 : goal.returns-else-n-eq0
+returns-else-n-eq0 c =
     let a = c.args in
     let s = a.s.now in
     let size = (rule_at a.k).size in

@@ -1,8 +1,7 @@
 -- `records::le_address_ok` meets its contract. The law `le_address_is` gives the checks as tests of the octets where they lie.
 use native.Mathlib.Omega.{arith}
-use Rattle.records.proofs.Laws.{tests, le_address_is, twice_not}
+use Rattle.records.proofs.Laws.{le_address_is, twice_not}
 use borrow.Author.Tests.{eq-eqb, ne_eqb}
-use borrow.Author.Rules.{rules}
 use Rattle.records.proofs.le_address_ok.Goals as goal
 
 pub returns-then-s-at-eq1 : goal.returns-then-s-at-eq1
@@ -13,5 +12,5 @@ returns-then-s-at-eq2 c =
     rw (le_address_is _ _ 7 (omega arith), ne_eqb _ _ c.if-s-at-eq1.false, eq-eqb _ _ c.if-s-at-eq2.true, twice_not)
     c.static_random.ensures
 
-pub returns : goal.returns
-returns c = rw (le_address_is _ _ 7 (omega arith)) (search tests)
+pub returns-else-s-at-eq2 : goal.returns-else-s-at-eq2
+returns-else-s-at-eq2 c = rw (le_address_is _ _ 7 (omega arith), ne_eqb _ _ c.if-s-at-eq1.false, ne_eqb _ _ c.if-s-at-eq2.false)

@@ -8,43 +8,43 @@ use Rattle.records.proofs.record_ok.Goals as goal
 
 pub uuid_ok-requires : goal.uuid_ok-requires
 unfolding uuid_rule
-uuid_ok-requires c = let z : (rule_at c.args.k).size ≡ 17 = rw (rule0 _ c.if-k-eq0.true) in omega arith
+uuid_ok-requires c = let z : (rule_at c.args.k).size ≡ 17 = rw (rule0 _ c.in-0.is) in omega arith
 
-pub returns-then-k-eq0 : goal.returns-then-k-eq0
+pub returns-in-0 : goal.returns-in-0
 unfolding uuid_rule
-returns-then-k-eq0 c = rw (rule0 _ c.if-k-eq0.true) c.uuid_ok.ensures
+returns-in-0 c = rw (rule0 _ c.in-0.is) c.uuid_ok.ensures
 
 pub link_key_ok-requires : goal.link_key_ok-requires
 unfolding link_key_rule
-link_key_ok-requires c = let z : (rule_at c.args.k).size ≡ 25 = rw (rule1 _ c.if-k-eq1.true) in omega arith
+link_key_ok-requires c = let z : (rule_at c.args.k).size ≡ 25 = rw (rule1 _ c.in-1.is) in omega arith
 
-pub returns-then-k-eq1 : goal.returns-then-k-eq1
+pub returns-in-1 : goal.returns-in-1
 unfolding link_key_rule
-returns-then-k-eq1 c = rw (rule1 _ c.if-k-eq1.true) c.link_key_ok.ensures
+returns-in-1 c = rw (rule1 _ c.in-1.is) c.link_key_ok.ensures
 
 pub long_term_key_ok-requires : goal.long_term_key_ok-requires
 unfolding long_term_key_rule
-long_term_key_ok-requires c = let z : (rule_at c.args.k).size ≡ 36 = rw (rule2 _ c.if-k-eq2.true) in omega arith
+long_term_key_ok-requires c = let z : (rule_at c.args.k).size ≡ 36 = rw (rule2 _ c.in-2.is) in omega arith
 
-pub returns-then-k-eq2 : goal.returns-then-k-eq2
+pub returns-in-2 : goal.returns-in-2
 unfolding long_term_key_rule
-returns-then-k-eq2 c = rw (rule2 _ c.if-k-eq2.true) c.long_term_key_ok.ensures
+returns-in-2 c = rw (rule2 _ c.in-2.is) c.long_term_key_ok.ensures
 
 pub identity_key_ok-requires : goal.identity_key_ok-requires
 unfolding identity_key_rule
-identity_key_ok-requires c = let z : (rule_at c.args.k).size ≡ 23 = rw (rule3 _ c.if-k-eq3.true) in omega arith
+identity_key_ok-requires c = let z : (rule_at c.args.k).size ≡ 23 = rw (rule3 _ c.in-3.is) in omega arith
 
-pub returns-then-k-eq3 : goal.returns-then-k-eq3
+pub returns-in-3 : goal.returns-in-3
 unfolding identity_key_rule
-returns-then-k-eq3 c = rw (rule3 _ c.if-k-eq3.true) c.identity_key_ok.ensures
+returns-in-3 c = rw (rule3 _ c.in-3.is) c.identity_key_ok.ensures
 
 pub blocked_ok-requires : goal.blocked_ok-requires
 unfolding blocked_rule
-blocked_ok-requires c = let z : (rule_at c.args.k).size ≡ 7 = rw (rule4 _ c.if-k-eq4.true) in omega arith
+blocked_ok-requires c = let z : (rule_at c.args.k).size ≡ 7 = rw (rule4 _ c.in-4.is) in omega arith
 
-pub returns-then-k-eq4 : goal.returns-then-k-eq4
+pub returns-in-4 : goal.returns-in-4
 unfolding blocked_rule
-returns-then-k-eq4 c = rw (rule4 _ c.if-k-eq4.true) c.blocked_ok.ensures
+returns-in-4 c = rw (rule4 _ c.in-4.is) c.blocked_ok.ensures
 
 pub device_ok-requires : goal.device_ok-requires
 unfolding device_rule
@@ -52,6 +52,6 @@ device_ok-requires c =
     let z : (rule_at c.args.k).size ≡ 8 = rw
     (rule5 c.args.k (omega arith)) in omega arith
 
-pub returns : goal.returns
+pub returns-in_default : goal.returns-in_default
 unfolding device_rule
-returns c = rw (rule5 c.args.k (omega arith)) c.device_ok.ensures
+returns-in_default c = rw (rule5 c.args.k (omega arith)) c.device_ok.ensures

@@ -11,41 +11,39 @@ use Rattle.records.proofs.Walks.{valid_fails, valid_goes}
 use borrow.Author.Rules.{rules}
 use Rattle.records.proofs.slots_keep_rules.Goals as goal
 
-pub returns-then-meet : goal.returns-then-meet
+pub returns-in_default : goal.returns-in_default
 unfolding records_ok
-returns-then-meet c =
+returns-in_default c =
     let a = c.args in
     let s = a.s.now in
     let free = free_zero s (rule_at a.k).size a.place a.n a.w in
     let rs = records_at s (rule_at a.k).size a.place a.n a.w in
     let each = every (record_ok (rule_at a.k)) rs in
     let apart = distinct (map (rule_at a.k).key rs) in
-    let valid = sym c.table_slots_ok-looked.ensures.valid ∙ c.if-looked.true in
-    c.distinct.ensures ∙ valid_goes free each apart valid
+    valid_fails free each apart c.in_default.ensures
 
-pub returns-then-looked : goal.returns-then-looked
+pub returns-then-not-meet : goal.returns-then-not-meet
 unfolding records_ok
-returns-then-looked c =
+returns-then-not-meet c =
     let a = c.args in
     let s = a.s.now in
     let free = free_zero s (rule_at a.k).size a.place a.n a.w in
     let rs = records_at s (rule_at a.k).size a.place a.n a.w in
     let each = every (record_ok (rule_at a.k)) rs in
     let apart = distinct (map (rule_at a.k).key rs) in
-    let wide = slice_bytes s (λ k. omega (arith, c.shared_slice_known-1.given k)) in
+    let wide = slice_bytes s (λ k. omega (arith, c.type_inv.s k)) in
     let told = slots_told a.k s a.place a.n a.w (search rules) (search rules) wide in
-    let none = sym c.meet.ensures ∙ c.if-meet.false in
-    let all = marks_apart _ _ _ (c.table_slots_ok-looked.ensures.marked c.if-looked.true) none in
-    let valid = sym c.table_slots_ok-looked.ensures.valid ∙ c.if-looked.true in
-    sym all ∙ told ∙ valid_goes free each apart valid
+    let none = sym c.meet.ensures ∙ c.if-not-meet.true in
+    let all = marks_apart _ _ _ c.in-Some.ensures.1 none in
+    rw c.if-not-meet.true (sym all ∙ told ∙ valid_goes free each apart c.in-Some.ensures.0)
 
-pub returns : goal.returns
+pub returns-else-not-meet : goal.returns-else-not-meet
 unfolding records_ok
-returns c =
+returns-else-not-meet c =
     let a = c.args in
     let s = a.s.now in
     let free = free_zero s (rule_at a.k).size a.place a.n a.w in
     let rs = records_at s (rule_at a.k).size a.place a.n a.w in
     let each = every (record_ok (rule_at a.k)) rs in
     let apart = distinct (map (rule_at a.k).key rs) in
-    valid_fails free each apart (sym c.table_slots_ok-looked.ensures.valid ∙ c.if-looked.false)
+    c.distinct.ensures ∙ valid_goes free each apart c.in-Some.ensures.0

@@ -1,22 +1,17 @@
--- `replies::advertising_removed` meets its contract. What is told of each instance, each behind the one before, is what the model tells of all.
-use Rattle.replies.proofs.Advertising.{removed_row}
+-- `replies::advertising_removed` meets its contract. What is told of each instance stands behind what is told of those before it.
+use Rattle.std.proofs.Common.{arith, refl}
+use Rattle.model.specs.Advertising.{removed_of}
+use Rattle.octets.specs.Parts.{write_at}
+use Rattle.replies.proofs.Advertising.{told_next}
 use Rattle.replies.proofs.advertising_removed.Goals as goal
 
-pub returns : goal.returns
-returns c =
-    let fourth = c in
-    let third = fourth in
-    let second = third in
-    let first = second in
-    removed_row
-    _ _ _ _ _ _ _ _ _ _ _ _ _ _ _
-    first.instance_removed-second.ensures.1
-    first.instance_removed-second.ensures.2
-    second.instance_removed-third.ensures.1
-    second.instance_removed-third.ensures.2
-    third.instance_removed-fourth.ensures.1
-    third.instance_removed-fourth.ensures.2
-    fourth.instance_removed-fifth.ensures.1
-    fourth.instance_removed-fifth.ensures.2
-    c.instance_removed.ensures.1
-    c.instance_removed.ensures.2
+pub loop-k-init : goal.loop-k-init
+unfolding removed_of write_at
+loop-k-init c = record { short = omega arith; place = omega arith; written = refl }
+
+pub loop-k-preserved : goal.loop-k-preserved
+loop-k-preserved c =
+    let p = c.loop-k.invariant in
+    let e = c.instance_removed-end.ensures in
+    let t = told_next _ _ _ _ _ _ _ _ _ _ c.loop-k-test.true p.short p.place p.written e.1 e.2 in
+    record { short = t.0; place = t.1; written = t.2 }

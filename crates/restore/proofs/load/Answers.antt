@@ -1,31 +1,19 @@
 -- `restore::load` meets its contract: length, image, state.
-use mathlib.Core.Path.{subst}
-use Rattle.model.specs.Reading.{either_version, judge}
-use Rattle.reading.specs.declared.Judgement.{Judgement}
-use Rattle.reading.specs.declared.Judgement.TheVariants.{Acceptable}
-use Rattle.reading.specs.Comes.{Judges}
 use Rattle.restore.proofs.Accepting.{load_done, load_length, load_refused, told}
-use borrow.Author.Rules.{rules}
 use Rattle.restore.proofs.load.Goals as goal
 
+pub returns-then-state-ne-STATE : goal.returns-then-state-ne-STATE
+returns-then-state-ne-STATE c = let a = c.args in told _ _ _ _ (load_length a.state.now a.image.now c.if-state-ne-STATE.true)
+
 pub fill-requires : goal.fill-requires
-fill-requires c = let j = (let a = c.args in let told : Judges a.image.now (judge either_version a.image.now) (Acceptable c.in-Acceptable.version) = let a = c.args in subst (λ (r : Judgement). Judges a.image.now (judge either_version a.image.now) r) c.in-Acceptable.is c.judge_either.ensures in told) in (c.if-state-eq-STATE.true, j.2, j.0)
+fill-requires c = let j = c.in-Ok.ensures in (c.if-state-ne-STATE.false, j.2, j.0)
 
-pub returns-in-Acceptable : goal.returns-in-Acceptable
-returns-in-Acceptable c =
+pub returns-in-Ok : goal.returns-in-Ok
+returns-in-Ok c =
     let a = c.args in
-    let j = (let a = c.args in let told : Judges a.image.now (judge either_version a.image.now) (Acceptable c.in-Acceptable.version) = let a = c.args in subst (λ (r : Judgement). Judges a.image.now (judge either_version a.image.now) r) c.in-Acceptable.is c.judge_either.ensures in told) in
-    let e = load_done a.state.now a.image.now c.in-Acceptable.version c.if-state-eq-STATE.true j.3 _ c.fill.ensures in
-    told _ _ _ _ e
+    told _ _ _ _ (load_done a.state.now a.image.now c.in-Ok.version c.if-state-ne-STATE.false c.in-Ok.ensures.3 _ c.fill.ensures)
 
-pub returns-in-Faulty : goal.returns-in-Faulty
-returns-in-Faulty c =
+pub returns-in-Err : goal.returns-in-Err
+returns-in-Err c =
     let a = c.args in
-    let e = load_refused a.state.now a.image.now c.in-Faulty.fault c.in-Faulty.place c.if-state-eq-STATE.true (subst (λ (r : Judgement). Judges a.image.now (judge either_version a.image.now) r) c.in-Faulty.is c.judge_either.ensures) in
-    told _ _ _ _ e
-
-pub returns : goal.returns
-returns c =
-    let a = c.args in
-    let e = load_length a.state.now a.image.now c.if-state-eq-STATE.false in
-    told _ _ _ _ e
+    told _ _ _ _ (load_refused a.state.now a.image.now c.in-Err.f.fault c.in-Err.f.at c.if-state-ne-STATE.false c.in-Err.ensures)

@@ -1,8 +1,6 @@
 -- `settings::apply_settings` meets its contract.
 use mathlib.Core.Path.{ap}
-use Prim.Native.Nat.{◌-◌}
 use Rattle.model.specs.declared.Answer.TheVariants.{Done}
-use borrow.Author.Rules.{rules}
 use Rattle.settings.proofs.apply_settings.Goals as goal
 
 pub returns : goal.returns

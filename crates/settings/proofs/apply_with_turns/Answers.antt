@@ -1,6 +1,5 @@
 -- `settings::apply_with_turns` meets its contract.
 use mathlib.Core.Path.{ap}
-use Prim.Native.Nat.{◌-◌}
 use Rattle.model.specs.declared.Answer.TheVariants.{Done}
 use Rattle.settings.proofs.Turns.{acted_written, acted_laid, told_short}
 use borrow.Author.Rules.{rules}

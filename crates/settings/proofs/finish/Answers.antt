@@ -1,6 +1,6 @@
 -- `settings::finish` meets its contract.
 use mathlib.Core.Path.{ap}
-use Prim.Native.Nat.{◌+◌, ◌-◌}
+use Prim.Native.Nat.{◌+◌}
 use Rattle.settings.proofs.Reporting.{cleared_ready, cleared_settings, open_within, report_acted}
 use borrow.Author.Rules.{rules}
 use Rattle.settings.proofs.finish.Goals as goal

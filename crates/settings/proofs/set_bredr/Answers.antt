@@ -1,5 +1,4 @@
 -- `settings::set_bredr` meets its contract.
-use Prim.Native.Nat.{◌-◌}
 use Rattle.settings.proofs.Turns.{bredr_acts}
 use Rattle.settings.proofs.Bridge.{concluded, ends_length, bredr_size}
 use borrow.Author.Rules.{rules}

@@ -1,5 +1,4 @@
 -- `settings::set_connectable` meets its contract.
-use Prim.Native.Nat.{◌-◌}
 use Rattle.settings.proofs.Turns.{connectable_acts}
 use Rattle.settings.proofs.Bridge.{concluded, ends_length, connectable_size}
 use borrow.Author.Rules.{rules}

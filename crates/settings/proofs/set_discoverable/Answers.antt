@@ -1,5 +1,4 @@
 -- `settings::set_discoverable` meets its contract.
-use Prim.Native.Nat.{◌-◌}
 use Rattle.settings.proofs.Turns.{discoverable_acts}
 use Rattle.settings.proofs.Bridge.{concluded, ends_length, discoverable_size}
 use borrow.Author.Rules.{rules}

@@ -1,5 +1,4 @@
 -- `settings::set_low_energy` meets its contract.
-use Prim.Native.Nat.{◌-◌}
 use Rattle.settings.proofs.Turns.{low_energy_acts}
 use Rattle.settings.proofs.Bridge.{concluded, ends_length, low_energy_size}
 use borrow.Author.Rules.{rules}

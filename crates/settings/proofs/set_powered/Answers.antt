@@ -1,5 +1,4 @@
 -- `settings::set_powered` meets its contract.
-use Prim.Native.Nat.{◌-◌}
 use Rattle.settings.proofs.Turns.{powered_acts}
 use Rattle.settings.proofs.Bridge.{concluded, ends_length, powered_size}
 use borrow.Author.Rules.{rules}

@@ -1,5 +1,4 @@
 -- `settings::set_static_address` meets its contract.
-use Prim.Native.Nat.{◌-◌}
 use Rattle.settings.proofs.Turns.{static_address_acts}
 use Rattle.settings.proofs.Bridge.{concluded, ends_length, static_address_never_waits, static_address_size}
 use borrow.Author.Rules.{rules}

@@ -1,6 +1,5 @@
 -- `settings::turns_after` meets its contract.
 use Rattle.settings.proofs.Turns.{turned_off, turned_on}
-use borrow.Author.Rules.{rules}
 use Rattle.settings.proofs.turns_after.Goals as goal
 
 pub returns-then-not-new : goal.returns-then-not-new

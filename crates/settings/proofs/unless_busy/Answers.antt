@@ -1,6 +1,6 @@
 -- `settings::unless-busy` meets its contract.
 use mathlib.Core.Path.{refl, sym, ◌∙◌}
-use Prim.Native.Nat.{◌-◌}
+use mathlib.Core.Logic.{⊎_elim}
 use Rattle.settings.proofs.Bridge.{ends_early, ends_busy, ends_late, ends_started, ends_acted}
 use borrow.Author.Rules.{rules}
 use Rattle.settings.proofs.unless_busy.Goals as goal
@@ -11,26 +11,12 @@ returns-then-open_code-ne0 c =
     (λ e. c.if-open_code-ne0.true (c.open_code.ensures ∙ e))
     c.refuse.ensures.0 c.refuse.ensures.1
 
-pub put_open-requires : goal.put_open-requires
-put_open-requires c = (
-  search rules,
-  search rules,
-  search rules,
-  c.requires.4
-      c.in-Wait.is,
-)
-
 pub returns-in-Refuse : goal.returns-in-Refuse
-returns-in-Refuse c =
-    λ u f p. ends_early _ _ _ _ u _ _ _ (search rules) (search rules) _ _ _ f _ c.in-Refuse.is
-    c.refuse-in-Refuse.ensures.0 c.refuse-in-Refuse.ensures.1
-
-pub returns-in-Reject : goal.returns-in-Reject
-returns-in-Reject c =
-    λ u f p. ends_late _ _ _ _ u _ _ _ (search rules) (search rules) _ _ _ f _ c.in-Reject.is
-    (sym c.open_code.ensures
-    ∙ c.if-open_code-ne0.false) c.refuse-in-Reject.ensures.0
-    c.refuse-in-Reject.ensures.1
+returns-in-Refuse c = λ u f p.
+    ⊎_elim (λ e. ends_early _ _ _ _ u _ _ _ (search rules) (search rules) _ _ _ f _ e c.refuse-in-Refuse.ensures.0 c.refuse-in-Refuse.ensures.1)
+    (λ e. ends_late _ _ _ _ u _ _ _ (search rules) (search rules) _ _ _ f _ e (sym c.open_code.ensures ∙ c.if-open_code-ne0.false)
+    c.refuse-in-Refuse.ensures.0 c.refuse-in-Refuse.ensures.1)
+    c.in-Refuse.is
 
 pub returns-in-Wait : goal.returns-in-Wait
 returns-in-Wait c =

@@ -6,14 +6,17 @@ use Rattle.table.proofs.LookUp.{slot_told}
 use Rattle.table.proofs.find.Goals as goal
 
 pub slice_bounds-look_up-end : goal.slice_bounds-look_up-end
-slice_bounds-look_up-end c = let e = c in sym (length-take-le e.args.n e.args.key.now e.requires.2)
+slice_bounds-look_up-end c = sym (length-take-le c.args.n c.args.key.now c.requires.2)
 
-pub look_up-u-requires : goal.look_up-u-requires
-look_up-u-requires c =
-    let e = c in
-    (e.requires.0, omega (arith, length-take-le e.args.n e.args.key.now e.requires.2, e.requires.1))
+pub look_up-slot-requires : goal.look_up-slot-requires
+look_up-slot-requires c = (c.requires.0, omega (arith, length-take-le c.args.n c.args.key.now c.requires.2, c.requires.1))
 
-pub returns : goal.returns
-returns c =
-    let e = c in
-    slot_told _ _ _ e.args.key.now _ e.args.n _ e.requires.2 refl c.look_up-u.ensures
+pub returns-then-slot-lt32 : goal.returns-then-slot-lt32
+returns-then-slot-lt32 c =
+    let t = slot_told _ _ _ c.args.key.now _ c.args.n _ c.requires.2 refl c.look_up-slot.ensures in
+    (t.0, c.if-slot-lt32.true)
+
+pub returns-else-slot-lt32 : goal.returns-else-slot-lt32
+returns-else-slot-lt32 c =
+    let t = slot_told _ _ _ c.args.key.now _ c.args.n _ c.requires.2 refl c.look_up-slot.ensures in
+    omega arith

@@ -7,16 +7,6 @@ use Rattle.table.proofs.load.Goals as goal
 pub overflow_sub-end : goal.overflow_sub-end
 overflow_sub-end c = one_le_shl64 c.args.n (search rules)
 
-pub copy_part-requires : goal.copy_part-requires
-copy_part-requires c = (
-  omega (
-    arith,
-    rest_room c.args.size
-        c.args.n (omega arith),
-  ),
-  search rules,
-)
-
 pub overflow_mul-size-3 : goal.overflow_mul-size-3
 overflow_mul-size-3 c =
     omega (
@@ -37,4 +27,4 @@ pub returns : goal.returns
 returns c =
     load_done _ _ _ _ _ _ _ _ _ (search rules) (search rules)
     c.put32.ensures
-    c.copy_part.ensures c.zero_fill.ensures
+    c.copy_into.ensures c.zero_fill.ensures

@@ -1,7 +1,7 @@
 -- `table::release` meets its contract. The octets of slot k are zero and its bit is masked out: the table with that slot free.
 use native.Mathlib.Omega.{arith}
 use Rattle.table.proofs.Regions.{slot_room}
-use Rattle.table.proofs.Laws.{release_done, and_fits}
+use Rattle.table.proofs.Laws.{release_done}
 use borrow.Author.Rules.{rules}
 use Rattle.table.proofs.release.Goals as goal
 
@@ -17,12 +17,9 @@ overflow_add-at c = omega (arith, slot_room c.args.size c.args.k (omega arith))
 pub zero_fill-requires : goal.zero_fill-requires
 zero_fill-requires c = omega (arith, slot_room c.args.size c.args.k (omega arith))
 
-pub overflow_cast-w-2 : goal.overflow_cast-w-2
-overflow_cast-w-2 c = and_fits c.u32_at-w.result _ (omega arith)
-
 pub returns : goal.returns
 returns c =
     release_done _ _ _ _ _ _ _ (search rules) c.requires.1
     (search rules) c.u32_at-w.ensures.0
     c.u32_at-w.ensures.1
-    c.zero_fill.ensures c.put32.ensures
+    c.zero_fill.ensures (rw c.from.ensures at c.put32.ensures)

@@ -4,8 +4,8 @@ use Rattle.table.specs.Slots.{table_at}
 use Rattle.table.proofs.Laws.{Freeing}
 use Rattle.table.proofs.release_matching.Given as goal
 
-abbrev pub invariant-loop-at : goal.invariant-loop-at
-invariant-loop-at l = Freeing (begins l.n l.key) l.initial.s l.s l.at l.size
+abbrev pub invariant-loop-slot : goal.invariant-loop-slot
+invariant-loop-slot l = Freeing (begins l.n l.key) l.initial.s l.s l.at l.size
 
-abbrev pub decreases-loop-at : goal.decreases-loop-at
-decreases-loop-at l = length (entries (table_at l.s l.at l.size))
+abbrev pub decreases-loop-slot : goal.decreases-loop-slot
+decreases-loop-slot l = length (entries (table_at l.s l.at l.size))

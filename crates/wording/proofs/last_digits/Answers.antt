@@ -1,5 +1,5 @@
 -- `wording::last_digits` meets its contract. The invariant: the digits that are laid, behind those of what is left, are the number's.
-use Rattle.wording.proofs.Digits.{Laid, laid_end, laid_next, laid_start}
+use Rattle.wording.proofs.Digits.{laid_end, laid_next, laid_start}
 use borrow.Author.Rules.{rules}
 use Rattle.wording.proofs.last_digits.Goals as goal
 

@@ -1,5 +1,4 @@
-use Rattle.wording.proofs.Digits.{Laid, laid_end, laid_next, laid_start}
-use borrow.Author.Rules.{rules}
+use Rattle.wording.proofs.Digits.{Laid}
 use Rattle.wording.proofs.last_digits.Given as goal
 
 abbrev pub invariant-loop-rest : goal.invariant-loop-rest

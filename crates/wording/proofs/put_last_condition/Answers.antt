@@ -2,7 +2,6 @@
 use Rattle.why.specs.Spelling.{spelled}
 use Rattle.why.specs.Wording.{condition}
 use Rattle.wording.proofs.Order.{past_last}
-use borrow.Author.Rules.{rules}
 use Rattle.wording.proofs.put_last_condition.Goals as goal
 
 pub returns-in-NotConnectable : goal.returns-in-NotConnectable

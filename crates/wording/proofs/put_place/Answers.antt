@@ -2,7 +2,6 @@
 use Rattle.why.specs.Spelling.{spelled}
 use Rattle.why.specs.Wording.{place_words}
 use Rattle.wording.proofs.Writing.{ends_behind, ends_nothing}
-use borrow.Author.Rules.{rules}
 use Rattle.wording.proofs.put_place.Goals as goal
 
 pub returns-in-Nowhere : goal.returns-in-Nowhere

@@ -1,71 +1,50 @@
 -- `wording::put_status` meets its contract: the name beside each number, and none beside the others.
+use native.Mathlib.Omega.{arith}
 use Rattle.why.specs.Spelling.{spelled}
 use Rattle.why.specs.Wording.{named, status_name, status_names}
 use Rattle.wording.proofs.Names.{named_as, named_not}
-use borrow.Author.Rules.{rules}
 use Rattle.wording.proofs.put_status.Goals as goal
 
-pub returns-then-status-eq-UNKNOWN_COMMAND : goal.returns-then-status-eq-UNKNOWN_COMMAND
+pub returns-in-1 : goal.returns-in-1
 unfolding status_name status_names named spelled
-returns-then-status-eq-UNKNOWN_COMMAND c = named_as _ _ _ 0x01 _ c.if-status-eq-UNKNOWN_COMMAND.true c.put.ensures
+returns-in-1 c = named_as _ _ _ _ _ c.in-1.is c.put.ensures
 
-pub returns-then-status-eq-FAILED : goal.returns-then-status-eq-FAILED
+pub returns-in-3 : goal.returns-in-3
 unfolding status_name status_names named spelled
-returns-then-status-eq-FAILED c = named_as _ _ _ 0x03 _ c.if-status-eq-FAILED.true c.put-then-status-eq-FAILED.ensures
+returns-in-3 c = named_as _ _ _ _ _ c.in-3.is c.put-in-3.ensures
 
-pub returns-then-status-eq-NOT_PAIRED : goal.returns-then-status-eq-NOT_PAIRED
+pub returns-in-6 : goal.returns-in-6
 unfolding status_name status_names named spelled
-returns-then-status-eq-NOT_PAIRED c = named_as _ _ _ 0x06 _ c.if-status-eq-NOT_PAIRED.true c.put-then-status-eq-NOT_PAIRED.ensures
+returns-in-6 c = named_as _ _ _ _ _ c.in-6.is c.put-in-6.ensures
 
-pub returns-then-status-eq-NO_RESOURCES : goal.returns-then-status-eq-NO_RESOURCES
+pub returns-in-7 : goal.returns-in-7
 unfolding status_name status_names named spelled
-returns-then-status-eq-NO_RESOURCES c = named_as _ _ _ 0x07 _ c.if-status-eq-NO_RESOURCES.true c.put-then-status-eq-NO_RESOURCES.ensures
+returns-in-7 c = named_as _ _ _ _ _ c.in-7.is c.put-in-7.ensures
 
-pub returns-then-status-eq-BUSY : goal.returns-then-status-eq-BUSY
+pub returns-in-10 : goal.returns-in-10
 unfolding status_name status_names named spelled
-returns-then-status-eq-BUSY c = named_as _ _ _ 0x0A _ c.if-status-eq-BUSY.true c.put-then-status-eq-BUSY.ensures
+returns-in-10 c = named_as _ _ _ _ _ c.in-10.is c.put-in-10.ensures
 
-pub returns-then-status-eq-REJECTED : goal.returns-then-status-eq-REJECTED
+pub returns-in-11 : goal.returns-in-11
 unfolding status_name status_names named spelled
-returns-then-status-eq-REJECTED c = named_as _ _ _ 0x0B _ c.if-status-eq-REJECTED.true c.put-then-status-eq-REJECTED.ensures
+returns-in-11 c = named_as _ _ _ _ _ c.in-11.is c.put-in-11.ensures
 
-pub returns-then-status-eq-NOT_SUPPORTED : goal.returns-then-status-eq-NOT_SUPPORTED
+pub returns-in-12 : goal.returns-in-12
 unfolding status_name status_names named spelled
-returns-then-status-eq-NOT_SUPPORTED c = named_as _ _ _ 0x0C _ c.if-status-eq-NOT_SUPPORTED.true c.put-then-status-eq-NOT_SUPPORTED.ensures
+returns-in-12 c = named_as _ _ _ _ _ c.in-12.is c.put-in-12.ensures
 
-pub returns-then-status-eq-INVALID_PARAMETERS : goal.returns-then-status-eq-INVALID_PARAMETERS
+pub returns-in-13 : goal.returns-in-13
 unfolding status_name status_names named spelled
-returns-then-status-eq-INVALID_PARAMETERS c = named_as _ _ _ 0x0D _ c.if-status-eq-INVALID_PARAMETERS.true c.put-then-status-eq-INVALID_PARAMETERS.ensures
+returns-in-13 c = named_as _ _ _ _ _ c.in-13.is c.put-in-13.ensures
 
-pub returns-then-status-eq-NOT_POWERED : goal.returns-then-status-eq-NOT_POWERED
+pub returns-in-15 : goal.returns-in-15
 unfolding status_name status_names named spelled
-returns-then-status-eq-NOT_POWERED c = named_as _ _ _ 0x0F _ c.if-status-eq-NOT_POWERED.true c.put-then-status-eq-NOT_POWERED.ensures
+returns-in-15 c = named_as _ _ _ _ _ c.in-15.is c.put-in-15.ensures
 
-pub returns-then-status-eq-INVALID_INDEX : goal.returns-then-status-eq-INVALID_INDEX
+pub returns-in-17 : goal.returns-in-17
 unfolding status_name status_names named spelled
-returns-then-status-eq-INVALID_INDEX c = named_as _ _ _ 0x11 _ c.if-status-eq-INVALID_INDEX.true c.put-then-status-eq-INVALID_INDEX.ensures
+returns-in-17 c = named_as _ _ _ _ _ c.in-17.is c.put-in-17.ensures
 
-pub returns : goal.returns
+pub returns-in_default : goal.returns-in_default
 unfolding status_names
-returns c = named_not _ _ (
-  c.if-status-eq-UNKNOWN_COMMAND.false,
-  (
-    c.if-status-eq-FAILED.false,
-    (
-      c.if-status-eq-NOT_PAIRED.false,
-      (
-        c.if-status-eq-NO_RESOURCES.false,
-        (
-          c.if-status-eq-BUSY.false,
-          (
-            c.if-status-eq-REJECTED.false,
-            (
-              c.if-status-eq-NOT_SUPPORTED.false,
-              (c.if-status-eq-INVALID_PARAMETERS.false, (c.if-status-eq-NOT_POWERED.false, (c.if-status-eq-INVALID_INDEX.false, tt))),
-            ),
-          ),
-        ),
-      ),
-    ),
-  ),
-)
+returns-in_default c = named_not _ _ (omega arith, (omega arith, (omega arith, (omega arith, (omega arith, (omega arith, (omega arith, (omega arith, (omega arith, (omega arith, tt))))))))))

@@ -7,7 +7,6 @@ use Rattle.why.specs.Wording.{named, status_name, status_names, text_of}
 use Rattle.why.proofs.Lengths.{condition_short, name_short}
 use Rattle.wording.proofs.Writing.{ends_behind, room, text_behind}
 use Rattle.wording.proofs.Names.{named_as}
-use borrow.Author.Rules.{rules}
 use Rattle.wording.proofs.write_text.Goals as goal
 
 pub put-from-requires : goal.put-from-requires
@@ -26,18 +25,18 @@ put_place-requires c =
     let i : c.put_condition-next.result ≤ c.put-from.result + 70 = rw c.put_condition-next.ensures.1 (room _ _ (condition_short _)) in
     omega arith
 
-pub returns-in-Taken : goal.returns-in-Taken
+pub returns-in-Ok : goal.returns-in-Ok
 unfolding text_of spelled
-returns-in-Taken c = rw c.in-Taken.is c.put.ensures
+returns-in-Ok c = rw c.in-Ok.is c.put.ensures
 
-pub returns-in-Busy : goal.returns-in-Busy
+pub returns-in-Err-Busy : goal.returns-in-Err-Busy
 unfolding text_of spelled status_name status_names named
-returns-in-Busy c = rw c.in-Busy.is c.put-in-Busy.ensures
+returns-in-Err-Busy c = rw (c.in-Err-Busy.is, rw c.in-Err-Busy.is at c.in-Err-Busy.field-0-is) c.put-in-Err-Busy.ensures
 
-pub returns-in-Wrong : goal.returns-in-Wrong
+pub returns-in-Err-Wrong : goal.returns-in-Err-Wrong
 unfolding text_of spelled
-returns-in-Wrong c =
-    rw c.in-Wrong.is
+returns-in-Err-Wrong c =
+    rw (c.in-Err-Wrong.is, rw c.in-Err-Wrong.is at c.in-Err-Wrong.field-0-is)
     (text_behind _ _ _ _ _ _ _
     (named_as _ _ _ _ _ (sym c.reason_status.ensures) c.put_status-name.ensures)
     (ends_behind _ _ _ _ _ _ _ _ c.put-from.ensures

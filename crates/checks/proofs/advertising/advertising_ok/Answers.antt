@@ -1,43 +1,17 @@
--- `checks::advertising::advertising_ok` meets its contract. The law `none_there` says that with no instance all is zero.
-use mathlib.Core.Path.{sym, ◌∙◌}
+-- `checks::advertising::advertising_ok` meets its contract.
+use Rattle.std.proofs.Common.{sym, ◌∙◌, arith}
+use Rattle.std.proofs.lemmas.Grind.{common_steps}
 use Rattle.checks.proofs.AdvertisingLaws.{advertising_by, none_there}
-use borrow.Author.Rules.{rules}
+use Rattle.checks.proofs.Laws.{lent_zero}
 use Rattle.checks.proofs.advertising.advertising_ok.Goals as goal
 
 pub returns-then-zeros : goal.returns-then-zeros
 returns-then-zeros c =
-    let z = c in
-    let a = z in
-    c.blank.ensures ∙ none_there _ _ a.args.s.now a.args.at _ a.requires.0 a.requires.1 (sym z.zeros.ensures ∙ c.if-zeros.true)
+    c.blank.ensures ∙ lent_zero c.args.s.now _ _ 343 (omega arith)
+    ∙ none_there _ _ c.args.s.now c.args.at _ c.requires.0 c.requires.1 (sym c.zeros.ensures ∙ c.if-zeros.true)
 
 pub returns-then-data_ok : goal.returns-then-data_ok
-returns-then-data_ok c =
-    let d = c in
-    let r = d in
-    let a = r in
-    rw (
-      advertising_by _ _ a.args.s.now a.args.at _ a.requires.1,
-      ← r.schedule_ok.ensures,
-      d.if-schedule_ok.true,
-      ← d.data_ok.ensures,
-      c.if-data_ok.true,
-    ) c.data_ok-then-data_ok.ensures
+returns-then-data_ok c = rw (advertising_by _ _ c.args.s.now c.args.at _ c.requires.1) (grind (arith, common_steps))
 
 pub returns-else-data_ok : goal.returns-else-data_ok
-returns-else-data_ok c =
-    let d = c in
-    let r = d in
-    let a = r in
-    rw (
-      advertising_by _ _ a.args.s.now a.args.at _ a.requires.1,
-      ← r.schedule_ok.ensures,
-      d.if-schedule_ok.true,
-      ← d.data_ok.ensures,
-      c.if-data_ok.false,
-    )
-
-pub returns-else-schedule_ok : goal.returns-else-schedule_ok
-returns-else-schedule_ok c =
-    let r = c in
-    let a = r in
-    rw (advertising_by _ _ a.args.s.now a.args.at _ a.requires.1, ← r.schedule_ok.ensures, c.if-schedule_ok.false)
+returns-else-data_ok c = rw (advertising_by _ _ c.args.s.now c.args.at _ c.requires.1) (grind (arith, common_steps))

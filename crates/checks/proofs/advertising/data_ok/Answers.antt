@@ -1,36 +1,26 @@
--- `checks::advertising::data_ok` meets its contract. The invariant: the instances that are left tell what all five tell.
-use mathlib.Core.Path.{◌≡◌, refl, sym, ◌∙◌}
-use Prim.Native.Nat.{◌+◌, ◌-◌, ◌*◌, ◌≤◌}
-use native.Mathlib.Omega.{arith}
-use lib.ListN.{length, drop}
+-- `checks::advertising::data_ok` meets its contract. What is left of the durations, from where their data lie, keeps the rule exactly if all do.
+use Rattle.std.proofs.Common.{sym, ◌∙◌, refl, arith, rules}
 use Rattle.checks.proofs.AdvertisingLaws.{data_end, data_fails, data_turn}
-use borrow.Author.Tests.{not-true, not-false}
-use Rattle.checks.specs.Advertising.{data_octets_ok}
-use borrow.Author.Rules.{rules}
 use Rattle.checks.proofs.advertising.data_ok.Goals as goal
 
-pub loop-k-init : goal.loop-k-init
-loop-k-init c = (omega arith, omega arith, refl)
+pub loop-d-init : goal.loop-d-init
+loop-d-init c = record { room = omega arith; same = refl }
 
 pub slot_ok-requires : goal.slot_ok-requires
-slot_ok-requires c = omega arith
+slot_ok-requires c = let h = c.loop-d.invariant.room in omega arith
 
 pub returns-then-not-slot_ok : goal.returns-then-not-slot_ok
 returns-then-not-slot_ok c =
-    let o = c in
-    let a = o in
-    data_fails _ (search rules) _ _ _ o.loop-k-test.true (sym o.slot_ok.ensures ∙ not-true _ c.if-not-slot_ok.true-raw)
-    ∙ o.loop-k.invariant.2
+    data_fails c.args.durations (search rules) _ _ _ (omega arith) (sym c.slot_ok.ensures ∙ c.if-not-slot_ok.true) ∙ c.loop-d.invariant.same
 
-pub loop-k-preserved : goal.loop-k-preserved
-loop-k-preserved c =
-    let o = c in
-    let a = o in (
-      search rules,
-      omega arith,
-      data_turn _ (search rules) _ _ _ o.loop-k-test.true (sym o.slot_ok.ensures ∙ not-false _ c.if-not-slot_ok.false-raw)
-          ∙ o.loop-k.invariant.2,
-    )
+pub overflow_add-at : goal.overflow_add-at
+overflow_add-at c = let h = c.loop-d.invariant.room in omega arith
+
+pub loop-d-preserved : goal.loop-d-preserved
+loop-d-preserved c = record {
+  room = let h = c.loop-d.invariant.room in omega arith;
+  same = data_turn c.args.durations (search rules) _ _ _ (omega arith) (sym c.slot_ok.ensures ∙ c.if-not-slot_ok.false) ∙ c.loop-d.invariant.same;
+}
 
 pub returns : goal.returns
-returns c = data_end _ (search rules) _ _ _ c.loop-k-test.false ∙ c.loop-k.invariant.2
+returns c = data_end c.args.durations (search rules) _ _ _ (omega arith) ∙ c.loop-d.invariant.same

@@ -1,16 +1,16 @@
 -- `dispatch::long::list_fits` meets its contract.
-use borrow.Author.Rules.{rules}
+use native.Mathlib.Omega.{arith}
 use Rattle.dispatch.proofs.LongPackets.{fits_identity, fits_link, fits_long_term, fits_none}
 use Rattle.dispatch.proofs.long.list_fits.Goals as goal
 
-pub returns-then-code-eq-LOAD_LINK_KEYS : goal.returns-then-code-eq-LOAD_LINK_KEYS
-returns-then-code-eq-LOAD_LINK_KEYS c = rw c.u16_at.ensures.0 (fits_link _ _ _ c.if-code-eq-LOAD_LINK_KEYS.true)
+pub returns-in-18 : goal.returns-in-18
+returns-in-18 c = rw c.u16_at.ensures.0 (fits_link _ _ _ c.in-18.is)
 
-pub returns-then-code-eq-LOAD_LONG_TERM_KEYS : goal.returns-then-code-eq-LOAD_LONG_TERM_KEYS
-returns-then-code-eq-LOAD_LONG_TERM_KEYS c = rw c.u16_at-then-code-eq-LOAD_LONG_TERM_KEYS.ensures.0 (fits_long_term _ _ _ c.if-code-eq-LOAD_LONG_TERM_KEYS.true)
+pub returns-in-19 : goal.returns-in-19
+returns-in-19 c = rw c.u16_at-in-19.ensures.0 (fits_long_term _ _ _ c.in-19.is)
 
-pub returns-then-code-eq-LOAD_IDENTITY_KEYS : goal.returns-then-code-eq-LOAD_IDENTITY_KEYS
-returns-then-code-eq-LOAD_IDENTITY_KEYS c = rw c.u16_at-then-code-eq-LOAD_IDENTITY_KEYS.ensures.0 (fits_identity _ _ _ c.if-code-eq-LOAD_IDENTITY_KEYS.true)
+pub returns-in-48 : goal.returns-in-48
+returns-in-48 c = rw c.u16_at-in-48.ensures.0 (fits_identity _ _ _ c.in-48.is)
 
-pub returns : goal.returns
-returns c = fits_none _ _ _ c.if-code-eq-LOAD_LINK_KEYS.false c.if-code-eq-LOAD_LONG_TERM_KEYS.false c.if-code-eq-LOAD_IDENTITY_KEYS.false
+pub returns-in_default : goal.returns-in_default
+returns-in_default c = fits_none _ _ _ (λ e. omega (arith, e)) (λ e. omega (arith, e)) (λ e. omega (arith, e))

@@ -1,5 +1,4 @@
 -- `layout::waiting::clear` meets its contract.
-use borrow.Author.Rules.{rules}
 use mathlib.Core.Path.{refl, ◌∙◌}
 use Rattle.layout.proofs.WaitingOctets.{line_zeroed}
 use Rattle.layout.proofs.waiting.clear.Goals as goal

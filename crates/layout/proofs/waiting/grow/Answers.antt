@@ -1,12 +1,12 @@
 -- `layout::waiting::grow` meets its contract.
-use mathlib.Core.Path.{sym, ◌∙◌}
-use Prim.Native.Nat.{◌+◌}
+use mathlib.Core.Path.{sym, ap, ◌∙◌}
 use native.Mathlib.Omega.{arith}
+use Prim.Native.Nat.{◌+◌}
 use lib.ListN.{length}
-use borrow.Author.Rules.{rules}
+use Rattle.std.proofs.lemmas.List.{length-take}
 use Rattle.model.specs.Lengths as Lengths
 use Rattle.model.specs.Octets.{le32}
-use Rattle.octets.proofs.Parts.{length_write_at, part_first}
+use Rattle.octets.proofs.Parts.{length_write_at}
 use Rattle.layout.proofs.WaitingOctets.{lump_room, lump_written}
 use Rattle.layout.proofs.waiting.grow.Goals as goal
 
@@ -18,29 +18,37 @@ overflow_add-before c =
     (c.kept_count-after.ensures _ (sym c.requires.2)) in
     omega (arith, r.0, r.2)
 
-pub overflow_sub-after : goal.overflow_sub-after
-overflow_sub-after c =
+pub slice_bounds-copy_into-count : goal.slice_bounds-copy_into-count
+slice_bounds-copy_into-count c =
     let r = lump_room _ _ _ _ _ _ c.requires.2
     (omega (arith, c.taken-n.ensures.0, c.requires.3))
     (c.kept_count-before.ensures _ (sym c.requires.2))
     (c.kept_count-after.ensures _ (sym c.requires.2)) in
-    omega (arith, r.0)
+    r.0
 
-pub copy_part-requires : goal.copy_part-requires
-copy_part-requires c =
+pub slice_bounds-copy_into-length : goal.slice_bounds-copy_into-length
+slice_bounds-copy_into-length c =
     let r = lump_room _ _ _ _ _ _ c.requires.2
     (omega (arith, c.taken-n.ensures.0, c.requires.3))
     (c.kept_count-before.ensures _ (sym c.requires.2))
     (c.kept_count-after.ensures _ (sym c.requires.2)) in
-    let n = length_write_at c.args.s.now Lengths.blocks_end (le32 (c.taken-n.result + length c.args.lump.now)) in
-    (rw c.put32.ensures (omega (arith, r.0, r.1, r.2, n, c.requires.1)), omega (arith, r.0, r.1))
+    simp length-take (omega (arith, r.0, r.1))
+
+pub copy_into-requires : goal.copy_into-requires
+copy_into-requires c =
+    let r = lump_room _ _ _ _ _ _ c.requires.2
+    (omega (arith, c.taken-n.ensures.0, c.requires.3))
+    (c.kept_count-before.ensures _ (sym c.requires.2))
+    (c.kept_count-after.ensures _ (sym c.requires.2)) in
+    let n = ap length c.put32.ensures in
+    simp length-take (omega (arith, r.0, r.1, r.2, n, length_write_at c.args.s.now Lengths.blocks_end (le32 (c.taken-n.result + length c.args.lump.now)), c.requires.1))
 
 pub returns : goal.returns
 returns c =
     let p = c.requires in
     let t = c.taken-n.ensures.0 in
-    c.copy_part.ensures
-    ∙ rw (c.put32.ensures, part_first, t)
+    c.copy_into.ensures
+    ∙ rw (c.put32.ensures, t)
     (lump_written _ _ _ _ _ p.0 p.2 p.3
     (rw t at (c.kept_count-before.ensures _ (sym p.2)))
     (rw t at (c.kept_count-after.ensures _ (sym p.2))))

@@ -1,6 +1,5 @@
 -- `layout::waiting::length_said` meets its contract.
 use native.Mathlib.Omega.{arith}
-use borrow.Author.Rules.{rules}
 use Rattle.layout.proofs.WaitingOctets.{said_octets}
 use Rattle.layout.proofs.waiting.length_said.Goals as goal
 

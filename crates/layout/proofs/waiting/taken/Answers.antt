@@ -1,6 +1,5 @@
 -- `layout::waiting::taken` meets its contract.
-use mathlib.Core.Path.{sym, ◌∙◌}
-use borrow.Author.Rules.{rules}
+use mathlib.Core.Path.{◌∙◌}
 use Rattle.layout.proofs.WaitingOctets.{taken_is}
 use Rattle.layout.proofs.waiting.taken.Goals as goal
 

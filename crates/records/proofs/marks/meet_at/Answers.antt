@@ -1,9 +1,6 @@
 -- `records::marks::meet_at` meets its contract. The invariant: what was met and what is left to compare tell what all tell.
-use mathlib.Core.Path.{◌≡◌, ◌∙◌}
-use mathlib.Core.Bool.{◌||◌}
-use Prim.Native.Nat.{◌-◌, ◌≤◌}
+use mathlib.Core.Path.{◌∙◌}
 use native.Mathlib.Omega.{arith}
-use Rattle.records.specs.Marks.{meet_at, meet_from}
 use Rattle.records.proofs.Marking.{meet_first, meet_last, meet_other, meet_same}
 use borrow.Author.Rules.{rules}
 use Rattle.records.proofs.marks.meet_at.Goals as goal
@@ -20,11 +17,11 @@ loop-i-preserved c =
     let met = c.loop-i.met in (
       search rules,
       elim c.if-marks-i.branch [
-        | then-marks-i w ↦ rw w.met-is (meet_same ms d i met c.loop-i-test.true w.if-marks-i.true)
-        | else-marks-i w ↦ rw w.met-is (meet_other ms d i met c.loop-i-test.true w.if-marks-i.false)
+        | then-marks-i w ↦ rw w.met-is (meet_same ms d i met (omega arith) w.if-marks-i.true)
+        | else-marks-i w ↦ rw w.met-is (meet_other ms d i met (omega arith) w.if-marks-i.false)
       ]
           ∙ c.loop-i.invariant.1,
     )
 
 pub returns : goal.returns
-returns c = meet_last _ _ _ _ c.loop-i-test.false ∙ c.loop-i.invariant.1
+returns c = meet_last _ _ _ _ (omega arith) ∙ c.loop-i.invariant.1

@@ -1,36 +1,26 @@
--- `turns::skips::falls` meets its contract. Five times one timeout.
+-- `turns::skips::falls` meets its contract. Place by place.
+use Rattle.std.proofs.Common.{◌-◌, ◌*◌, ◌∙◌, ℕ, suc, get_or, arith, length-set}
+use Rattle.std.proofs.lemmas.List.Edits.{fill_by_more}
+use Rattle.std.proofs.lemmas.List.FromFn.{fill_by_all}
 use Rattle.model.specs.Advertising.{value_of}
 use Rattle.turns.specs.Walk.{later, falls}
-use borrow.Author.Rules.{rules}
 use Rattle.turns.proofs.skips.falls.Goals as goal
 
 pub later-requires : goal.later-requires
 unfolding value_of
-later-requires c = c.requires 1
+later-requires c = c.requires (suc c.loop-p.p)
 
-pub later-requires-2 : goal.later-requires-2
-unfolding value_of
-later-requires-2 c = c.requires 2
-
-pub later-requires-3 : goal.later-requires-3
-unfolding value_of
-later-requires-3 c = c.requires 3
-
-pub later-requires-4 : goal.later-requires-4
-unfolding value_of
-later-requires-4 c = c.requires 4
-
-pub later-requires-5 : goal.later-requires-5
-unfolding value_of
-later-requires-5 c = c.requires 5
+pub loop-p-preserved : goal.loop-p-preserved
+loop-p-preserved c =
+    let i = c.loop-p.invariant in
+    record {
+      five = length-set _ _ _ ∙ i.five;
+      so_far = rw c.later.ensures
+          (fill_by_more (λ (k : ℕ). get_or c.args.t k 0 - c.args.r * get_or c.args.d k 0) c.loop-p.fallen c.loop-p.p 0 (omega arith) i.so_far);
+    }
 
 pub returns : goal.returns
 unfolding falls later value_of
 returns c =
-    rw (
-      c.later.ensures,
-      c.later-2.ensures,
-      c.later-3.ensures,
-      c.later-4.ensures,
-      c.later-5.ensures,
-    )
+    let i = c.loop-p.invariant in
+    fill_by_all (λ (k : ℕ). get_or c.args.t k 0 - c.args.r * get_or c.args.d k 0) c.loop-p.fallen 5 0 i.five (λ k h. i.so_far k (omega arith))

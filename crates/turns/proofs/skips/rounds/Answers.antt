@@ -1,30 +1,19 @@
--- `turns::skips::rounds` meets its contract. Five times the least so far.
+-- `turns::skips::rounds` meets its contract. One instance more has its least at each step.
+use Rattle.std.proofs.Common.{suc, add-one, arith, rules}
 use Rattle.model.specs.Advertising.{value_of}
-use Rattle.turns.proofs.Skipping.{most_of}
-use borrow.Author.Rules.{rules}
+use Rattle.turns.proofs.Skipping.{upto_none, upto_more, most_of}
 use Rattle.turns.proofs.skips.rounds.Goals as goal
 
-pub capped-a-requires : goal.capped-a-requires
-unfolding value_of
-capped-a-requires c = c.requires 1
+pub loop-p-init : goal.loop-p-init
+loop-p-init c = upto_none _ _ _
 
-pub capped-b-requires : goal.capped-b-requires
+pub capped-r-requires : goal.capped-r-requires
 unfolding value_of
-capped-b-requires c = c.requires 2
+capped-r-requires c = c.requires (suc c.loop-p.p)
 
-pub capped-c-requires : goal.capped-c-requires
+pub loop-p-preserved : goal.loop-p-preserved
 unfolding value_of
-capped-c-requires c = c.requires 3
-
-pub capped-e-requires : goal.capped-e-requires
-unfolding value_of
-capped-e-requires c = c.requires 4
-
-pub capped-requires : goal.capped-requires
-unfolding value_of
-capped-requires c = c.requires 5
+loop-p-preserved c = rw add-one (upto_more c.loop-p.p _ _ _ _ _ c.loop-p.invariant c.capped-r.ensures)
 
 pub returns : goal.returns
-returns c =
-    most_of _ _ _ _ _ _ _ _ (search rules) c.capped-a.ensures c.capped-b.ensures
-    c.capped-c.ensures c.capped-e.ensures c.capped.ensures
+returns c = most_of c.loop-p.p _ _ _ _ (omega arith) (search rules) c.loop-p.invariant
