@@ -15,14 +15,13 @@ pub const WORDS: [usize; 6] = [293, 841, 1_645, 2_801, 3_541, 3_769];
 /// The octets of a record in each table.
 pub const RECORDS: [usize; 6] = [17, 25, 36, 23, 7, 8];
 
-/// Breaks a table of a block at a slot: one in use is told to be free, a free one gets an octet.
+/// Breaks a table of a block at a slot: one in use is told to be free, and where its octets are all zero, as those of a free one are and those of a link key
+/// may be, it gets an octet.
 fn break_slot(random: &mut Random, block: &mut [u8], table: usize, slot: usize) {
-    let (word, record) = (WORDS[table] + slot / 8, RECORDS[table]);
-    let used = block[word] >> (slot % 8) & 1 == 1;
-    if used {
-        block[word] ^= 1 << (slot % 8);
-    } else {
-        block[WORDS[table] + 4 + record * slot + random.below(record)] = 1 << random.below(8);
+    block[WORDS[table] + slot / 8] &= !(1 << (slot % 8));
+    let record = &mut block[WORDS[table] + 4 + RECORDS[table] * slot..][..RECORDS[table]];
+    if record.iter().all(|&octet| octet == 0) {
+        record[random.below(RECORDS[table])] = 1 << random.below(8);
     }
 }
 
