@@ -61,7 +61,7 @@ told_gone d e at i k b a n z w = rw (removed_gone i k b a n z, length_instance E
 -- ALL FIVE ------------------------------------------------------------------------------------------------------------------------------------
 
 -- Advertising Removed of all instances is that of each, ascending
-removed_is : (i : ℕ) (s t : Schedule) → removed_of i s t instances
+pub removed_is : (i : ℕ) (s t : Schedule) → removed_of i s t instances
     ≡ instance_removed i 1 (get_or s.durations 0 0) (get_or t.durations 0 0) ++ (instance_removed i 2 (get_or s.durations 1 0) (get_or t.durations 1 0)
     ++ (instance_removed i 3 (get_or s.durations 2 0) (get_or t.durations 2 0) ++ (instance_removed i 4 (get_or s.durations 3 0) (get_or t.durations 3 0)
     ++ instance_removed i 5 (get_or s.durations 4 0) (get_or t.durations 4 0))))
