@@ -17,12 +17,12 @@ use Rattle.model.specs.declared.Reason.TheVariants.{AddressNotStaticRandom, Addr
 use Rattle.model.specs.declared.Reason.TheVariants.{KeyTypeAbove4, KeyTypeAbove8, MasterAbove1}
 use Rattle.model.specs.State.{static_random}
 use Rattle.model.specs.Reasons.{Check, further, in_record, moved}
-use Rattle.model.specs.Tables.{chop, identity_key_rule, le_address_checks, link_key_rule, long_term_key_rule, rule_at}
+use Rattle.model.specs.Tables.{TableRule, chop, identity_key_rule, le_address_checks, link_key_rule, long_term_key_rule, rule_at}
 use Rattle.model.specs.Immediate.{record_checks}
 use Rattle.octets.specs.Parts.{part}
 use Rattle.octets.proofs.Parts.{get_d_part}
 use Rattle.rules.proofs.Addresses.{static_of}
-use Rattle.why.specs.Findings.{and_then, first_wrong, in_packet}
+use Rattle.why.specs.Findings.{Finding, and_then, first_wrong, in_packet}
 use Rattle.why.proofs.Orders.{check_steps, packet_append, moved_append}
 use Rattle.faults.specs.Faults.{address_fault, record_fault, records_fault}
 
@@ -118,6 +118,10 @@ module _ (k : ℕ) (ps : Octets) (from n j : ℕ) where
       let e : n - j - 1 ≡ n - (j + 1) = omega arith in
       let p : from + (rule_at k).size * j + (rule_at k).size ≡ from + (rule_at k).size * (j + 1) = omega (arith, mul-suc (rule_at k).size j) in
       rw (← e, ← p) (sym (records_cons k ps (from + (rule_at k).size * j) j (n - j) (omega arith)) ∙ r)
+
+-- what is found in a record is told by its number, whatever that is reckoned from
+pub counted : (u : TableRule) (ps : Octets) (at i j : ℕ) (f : Finding) → f ≡ record_fault u ps at i → i ≡ j → f ≡ record_fault u ps at j
+counted u ps at i j f e n = rw n at e
 
 -- the checks of a record, made one after the other
 pub ruleset steps = (check_steps, link_is, address_is, long_term_is)

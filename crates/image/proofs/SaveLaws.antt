@@ -270,6 +270,10 @@ name_written n used d d1 d2 p u l a b =
     let f : length used ≡ length (used_part n) = rw u in
     (omega arith, omega arith, b ∙ rw (a, then d p (length used ∷ []) used (p + 1) refl, u))
 
+-- an octet is written by its value, whatever that is reckoned from
+pub octet_put : (d d1 : Octets) (p x y : ℕ) → d1 ≡ write_at d p (x ∷ []) → x ≡ y → d1 ≡ write_at d p (y ∷ [])
+octet_put d d1 p x y e n = rw n at e
+
 -- the name by its number
 part_name : (n : Octets) → name_part 0 n ≡ take 249 n
 unfolding name_part

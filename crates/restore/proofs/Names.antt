@@ -175,3 +175,16 @@ module _ (v : Version) (image : Octets) (at : ℕ) (fit : NamesFit v (drop at im
       (padded 249 (part image (at + 24 + head) (n - head)) ++ padded 11 (part image (at + 24 + n + head) (m - head))))))
       → t ≡ encode (put_controller (decode s) i (with_host (controller_of s i) (with_name (controller_of s i).host (names_in v (drop at image)))))
   names_filled s t i n m head en em eh e = rw (names_said n m head en em eh) at e
+
+  -- the same of two slices of the image, by what they are
+  pub names_lent : (s t x y : Octets) (i n m head : ℕ) → n ≡ name_size v 249 (drop (at + 24) image) → m ≡ name_size v 11 (drop (at + 24 + n) image)
+      → head ≡ length_octets v
+      → t ≡ encode (put_controller (decode s) i (with_host (controller_of s i) (with_name (controller_of s i).host (padded 249 x ++ padded 11 y))))
+      → x ≡ part image (at + 24 + head) (n - head) → y ≡ part image (at + 24 + n + head) (m - head)
+      → t ≡ encode (put_controller (decode s) i (with_host (controller_of s i) (with_name (controller_of s i).host (names_in v (drop at image)))))
+  names_lent s t x y i n m head en em eh e ex ey = names_filled s t i n m head en em eh (rw (ex, ey) at e)
+
+-- a slice is the part there, whatever its ends are reckoned from
+pub slice_is : (o : Octets) (from n a b : ℕ) → a ≡ n → b ≡ from → take a (drop b o) ≡ part o from n
+unfolding part
+slice_is o from n a b e f = rw (e, f)

@@ -1,14 +1,21 @@
 -- `lists::all_apart` meets its contract. The invariant: the words from number i on tell what all tell.
 use mathlib.Core.Path.{◌∙◌}
+use Prim.Native.Nat.{◌+◌}
 use native.Mathlib.Omega.{arith}
-use Rattle.lists.proofs.Laws.{apart_hit, apart_miss, apart_end}
+use Rattle.lists.proofs.Laws.{apart_hit, apart_miss, apart_end, behind_at}
 use Rattle.lists.proofs.all_apart.Goals as goal
 
 pub returns-then-contains : goal.returns-then-contains
-returns-then-contains c = apart_hit c.args.words.now c.loop-i.i _ (omega arith) c.contains.ensures.value c.if-contains.true ∙ c.loop-i.invariant
+returns-then-contains c =
+    let ws = c.args.words.now in
+    let i = c.loop-i.i in
+    apart_hit ws i _ (omega arith) (behind_at _ ws _ _ (i + 1) c.contains.ensures.value (omega arith)) c.if-contains.true ∙ c.loop-i.invariant
 
 pub loop-i-preserved : goal.loop-i-preserved
-loop-i-preserved c = apart_miss c.args.words.now c.loop-i.i _ (omega arith) c.contains.ensures.value c.if-contains.false ∙ c.loop-i.invariant
+loop-i-preserved c =
+    let ws = c.args.words.now in
+    let i = c.loop-i.i in
+    apart_miss ws i _ (omega arith) (behind_at _ ws _ _ (i + 1) c.contains.ensures.value (omega arith)) c.if-contains.false ∙ c.loop-i.invariant
 
 pub returns : goal.returns
 returns c = apart_end c.args.words.now c.loop-i.i (omega arith) ∙ c.loop-i.invariant
