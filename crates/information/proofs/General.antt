@@ -1,6 +1,6 @@
 -- The general commands: from what their steps leave to what the model says of them, over plain values.
 -- Assumes nothing.
-use mathlib.Core.Path.{◌≡◌, refl, sym, ◌∙◌}
+use mathlib.Core.Path.{◌≡◌, refl, subst, sym, ◌∙◌}
 use Prim.Native.Nat.{ℕ, zero, suc, ◌+◌, ◌-◌, ◌/◌, ◌≤◌, ◌<◌}
 use native.Mathlib.Omega.{arith}
 use mathlib.Core.Bool.{Bool, true, false}
@@ -228,6 +228,13 @@ index_more s d d' d'' k p q ep w eq w' = (
   rw (words_append (first_listed s k) (listed s k), length-append) (omega (arith, ep, eq)),
   w' ∙ rw w (next_index d 2 (first_listed s k) (listed s k) p ep),
 )
+
+-- the same where the index that is listed is any number equal to k
+pub index_more_by : (s d d' d'' : Octets) (k i p q : ℕ) → p ≡ 2 + length (words (first_listed s k)) → d' ≡ write_at d 2 (words (first_listed s k))
+    → q ≡ p + length (words (listed s i)) → d'' ≡ write_at d' p (words (listed s i)) → i ≡ k
+    → (q ≡ 2 + length (words (first_listed s (suc k)))) × (d'' ≡ write_at d 2 (words (first_listed s (suc k))))
+index_more_by s d d' d'' k i p q ep w eq w' z =
+    index_more s d d' d'' k p q ep w (subst (λ x. q ≡ p + length (words (listed s x))) z eq) (subst (λ x. d'' ≡ write_at d' p (words (listed s x))) z w')
 
 -- the count, from the place behind the last index
 pub indexes_put : (s d d' d'' : Octets) (e n : ℕ) → 2 ≤ length d

@@ -231,11 +231,6 @@ module _ (ws : List ℕ) (i : ℕ) (r : Bool) (l : i < length ws)
   pub apart_miss : r ≡ false → apart (map key_identity (drop (i + 1) ws)) ≡ apart (map key_identity (drop i ws))
   apart_miss f = sym (split ∙ rw f)
 
--- what stands behind a word begins where its number says, whatever that is reckoned from
-pub behind_at : (p : ℕ → Bool) (ws : List ℕ) (r : Bool) (a b : ℕ) → r ≡ list_any p (take (length ws - a) (drop a ws)) → a ≡ b
-    → r ≡ list_any p (take (length ws - b) (drop b ws))
-behind_at p ws r a b e n = rw n at e
-
 -- none is left
 pub apart_end : (ws : List ℕ) (i : ℕ) → length ws ≤ i → true ≡ apart (map key_identity (drop i ws))
 unfolding apart

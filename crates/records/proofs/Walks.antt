@@ -208,6 +208,11 @@ module _ (ids : List Identity) (i : ℕ) (r : Bool) (d : Identity) (l : i < leng
   unfolding apart
   apart_miss f = let q : suc i ≡ i + 1 = omega arith in sym (rw (drop-cons ids i d l, q, ← told, f) (ap (λ (k : ℕ). apart (drop k ids)) q))
 
+-- what stands behind an item begins where its number says, whatever that is reckoned from
+pub behind_at : {A : Type 0} (p : A → Bool) (xs : List A) (r : Bool) (a b : ℕ) → r ≡ list_any p (take (length xs - a) (drop a xs)) → a ≡ b
+    → r ≡ list_any p (take (length xs - b) (drop b xs))
+behind_at p xs r a b e n = rw n at e
+
 -- none is left
 pub apart_end : (ids : List Identity) (i : ℕ) → length ids ≤ i → true ≡ apart (drop i ids)
 unfolding apart

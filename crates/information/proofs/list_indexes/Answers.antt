@@ -2,7 +2,7 @@
 use Rattle.std.proofs.Common.{◌≡◌, arith, refl, add-one}
 use Rattle.model.specs.Commands.{words}
 use Rattle.octets.specs.Parts.{write_at}
-use Rattle.information.proofs.General.{index_more, indexes_put}
+use Rattle.information.proofs.General.{index_more_by, indexes_put}
 use Rattle.information.proofs.list_indexes.Goals as goal
 
 pub loop-i-init : goal.loop-i-init
@@ -13,7 +13,7 @@ pub loop-i-preserved : goal.loop-i-preserved
 loop-i-preserved c =
     let v = c.loop-i.invariant in
     let e = c.list_index-end.ensures in
-    let m = index_more _ _ _ _ _ _ _ v.place v.written e.0 e.2 in
+    let m = index_more_by _ _ _ _ c.loop-i.i _ _ _ v.place v.written e.0 e.2 (omega arith) in
     record { short = omega (arith, v.short, e.1); place = rw add-one m.0; written = rw add-one m.1 }
 
 pub returns : goal.returns

@@ -2,7 +2,8 @@
 use mathlib.Core.Path.{◌∙◌}
 use Prim.Native.Nat.{◌+◌}
 use native.Mathlib.Omega.{arith}
-use Rattle.lists.proofs.Laws.{apart_hit, apart_miss, apart_end, behind_at}
+use Rattle.records.proofs.Walks.{behind_at}
+use Rattle.lists.proofs.Laws.{apart_hit, apart_miss, apart_end}
 use Rattle.lists.proofs.all_apart.Goals as goal
 
 pub returns-then-contains : goal.returns-then-contains
